@@ -1,0 +1,21 @@
+//! Cases for the comparison: rigs, sections laid by hand, named changes. All of it is deterministic
+//! from a seed.
+
+pub mod damage;
+pub mod hand;
+pub mod limits;
+pub mod places;
+pub mod random;
+pub mod records;
+pub mod rigs;
+pub mod rng;
+pub mod scattered;
+pub mod section;
+pub mod trial;
+pub mod units;
+pub mod words;
+
+pub use hand::Hand;
+pub use random::{damaged, good, Case};
+pub use rng::Rng;
+pub use section::Section;

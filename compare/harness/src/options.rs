@@ -1,0 +1,40 @@
+//! The words of the command line.
+
+/// What is to be run.
+pub struct Options {
+    pub long: bool,
+    pub oracle_only: bool,
+    pub seed: u64,
+    /// Damaged sections.
+    pub count: u64,
+    pub threads: u64,
+    /// A file for the stored sample; nothing else is run then.
+    pub store: Option<String>,
+}
+
+impl Options {
+    pub fn parse(words: impl Iterator<Item = String>) -> Result<Options, String> {
+        let mut o = Options { long: false, oracle_only: false, seed: 1_000_000, count: 0, threads: 0, store: None };
+        let mut words = words;
+        while let Some(word) = words.next() {
+            let mut number = || words.next().and_then(|w| w.parse().ok()).ok_or(format!("{word} wants a number"));
+            match word.as_str() {
+                "--long" => o.long = true,
+                "--oracle-only" => o.oracle_only = true,
+                "--required" => {} // for `run`
+                "--seed" => o.seed = number()?,
+                "--count" => o.count = number()?,
+                "--threads" => o.threads = number()?,
+                "--store" => o.store = Some(words.next().ok_or("--store wants a file")?),
+                other => return Err(format!("unknown word {other}")),
+            }
+        }
+        if o.count == 0 {
+            o.count = if o.long { 10_000_000 } else { 400_000 };
+        }
+        if o.threads == 0 {
+            o.threads = if o.long { std::thread::available_parallelism().map_or(1, |n| n.get() as u64) } else { 1 };
+        }
+        Ok(o)
+    }
+}

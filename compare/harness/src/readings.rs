@@ -1,0 +1,126 @@
+//! What the published Rust does where document 01 leaves room: one named assertion for each reading.
+//! docs/DECISIONS.md and docs/DIFFERENCES.md cite these functions by name.
+
+mod addresses;
+mod bytes;
+mod deriving;
+mod floats;
+mod numbers;
+mod pool;
+mod section;
+mod trial;
+mod writing;
+
+use std::panic::catch_unwind;
+use std::time::Instant;
+
+/// A reading's name and the assertions that show it.
+type Named = (&'static str, fn());
+
+macro_rules! readings {
+    ($($module:ident { $($name:ident),* $(,)? })*) => {
+        const READINGS: &[Named] = &[$($((stringify!($name), $module::$name)),*),*];
+    };
+}
+
+readings! {
+    bytes {
+        skeleton_needs_98_bytes, bone_needs_70_bytes, bones_block_header_needs_0_bytes, tag_entry_needs_16_bytes,
+        joints_need_52_bytes, arrays_need_all_their_bytes, name_needs_0_bytes, never_examined, unaligned_address_is_legal,
+    }
+    addresses {
+        bones_pointer_ranges, thirteen_comes_after_chains, each_bone_by_its_own_address, names_and_arrays_lie_in_one_half,
+        count_0_is_pooled_unexamined, res_reader_follows_other_rules,
+    }
+    pool {
+        moments_of_pooling, name_at_own_bone_block_or_root, bucket_or_link_at_bucket_array_or_root, arrays_at_root,
+        later_kind_replaces_earlier, twelve_before_ten_and_eleven, plain_arrays_never_give_12, pool_is_asked_before_the_count,
+        other_kind_is_read_anew_and_left_out, lists_stand_without_bones, local_at_inverse_gives_kept_words,
+    }
+    deriving {
+        roots_are_all_negative_parents, children_by_index_walk_and_entries_by_position, bone_is_its_own_child,
+        children_go_in_front, layers_up_to_n_plus_1, walk_takes_n_steps_in_a_circle,
+    }
+    floats {
+        no_fused_multiply_add, subnormals_are_kept, zero_column_terms_are_kept, minus_zero_occurs,
+        determinant_minus_zero_is_singular, doubling_order, local_translation_nan_is_derived,
+    }
+    writing {
+        names_part, empty_name_is_368_bytes, largest_section, child_entries_65528_and_65536, rotation_limit_named_slots_win,
+    }
+    section {
+        chains_are_those_of_the_list_read, bones_read_are_counted, empty_input_is_11, names_are_mended,
+    }
+    numbers { ladder, rage_joaat_samples, fresh_rotation_limit_words }
+    trial {
+        trial_buckets, trial_tags, trial_children, trial_own_parent, trial_singular, trial_no_bones, trial_one_root,
+        trial_bones_pointer_15_and_16,
+    }
+}
+
+/// Runs every reading and prints its name; the number of readings, or the names that failed.
+pub fn run() -> Result<usize, String> {
+    let mut failed = Vec::new();
+    for (name, shown) in READINGS {
+        let start = Instant::now();
+        let held = catch_unwind(shown).is_ok();
+        println!("  reading {name}: {} ({} ms)", if held { "shown" } else { "FAILED" }, start.elapsed().as_millis());
+        if !held {
+            failed.push(*name);
+        }
+    }
+    if failed.is_empty() {
+        Ok(READINGS.len())
+    } else {
+        Err(format!("readings not shown: {}", failed.join(", ")))
+    }
+}
+
+/// Short forms of the oracle for the modules below.
+mod ask {
+    use cases::Section;
+    use oracle::{Answer, Bone, JointsAnswer, Reading, Verdict};
+
+    pub fn read(s: &Section) -> Answer {
+        oracle::read(&s.system, &s.graphics, s.root)
+    }
+
+    /// The refusal's number, 0 for a section that reads.
+    pub fn refusal(s: &Section) -> u8 {
+        match read(s) {
+            Answer::Refused(n) => n,
+            Answer::Read(_) => 0,
+            Answer::None => panic!("the root is 0"),
+        }
+    }
+
+    pub fn reading(s: &Section) -> Reading {
+        match read(s) {
+            Answer::Read(r) => *r,
+            other => panic!("not read: {other:?}"),
+        }
+    }
+
+    pub fn bones(s: &Section) -> Vec<Bone> {
+        reading(s).bones.expect("bones stand")
+    }
+
+    pub fn check(s: &Section) -> Verdict {
+        oracle::check(&s.system, &s.graphics, s.root)
+    }
+
+    pub fn joints_refusal(s: &Section) -> u8 {
+        match oracle::joints_read(&s.system, &s.graphics, s.root) {
+            JointsAnswer::Refused(n) => n,
+            JointsAnswer::Read(_) => 0,
+            JointsAnswer::None => panic!("the root is 0"),
+        }
+    }
+
+    /// The section with its system half cut at `length`.
+    pub fn cut(s: &Section, length: usize) -> Section {
+        let mut c = s.clone();
+        c.system.truncate(length);
+        c
+    }
+}

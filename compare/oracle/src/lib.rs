@@ -1,0 +1,29 @@
+//! The published Rust, built unchanged, behind plain types: words, bytes and document 01's numbers.
+//!
+//! `read`, `derive`, `write` and `joints` run the published bodies. `check` joins them as 01's
+//! "Lookup and check" says, `lookup` is read from there over the published `Reader`.
+
+mod bone;
+mod check;
+mod derive;
+mod fields;
+mod joints;
+mod lookup;
+mod read;
+mod refusal;
+mod write;
+
+pub use bone::{Bone, Matrix};
+pub use check::{check, check_reading, Verdict};
+pub use derive::{
+    build_bone_tags, build_indices, build_transformations, num_hash_buckets, settle_nan, Chains, COLUMN4, SETTLED_NAN,
+};
+pub use fields::{put_u16, put_u32, put_u64, u16_at, u32_at, u64_at};
+pub use joints::{fresh_rotation_limit, joints_read, joints_write, Joints, JointsAnswer, RotationLimit, TranslationLimit};
+pub use lookup::{lookup, Found};
+pub use rage_formats::hash::rage_joaat;
+pub use rage_formats::math::{Mat4, Vec3, Vec4};
+pub use rage_formats::resource::{ResReader, GRAPHICS_BASE, SYSTEM_BASE};
+pub use read::{read, Answer, Entry, Reading, Rows};
+pub use refusal::number;
+pub use write::{write, Written};

@@ -1,0 +1,1 @@
+//! Stand-in: nothing of the module `bvh` is needed.

@@ -1,0 +1,28 @@
+-- `fields::u64_at` meets its contract (document 01, "Finding bytes"): the laws of a tested load, at a width of 8 bytes.
+-- Assumes nothing.
+use borrow.Author.Needs.{needs}
+use denote.Ref.{now}
+use Rattle.fields.proofs.Laws.{test-true, load-inside, load-outside}
+use Rattle.fields.proofs.u64_at.Statement.{statement}
+use Rattle.fields.proofs.u64_at.Tie as tie
+
+stands-requires : tie.Need-stands-requires
+stands-requires c κs = search needs
+
+load64-requires : tie.Need-load64-requires
+load64-requires c κs =
+    let a = c .before .before .before .args in
+    test-true 8 (now (a .s)) (a .at) (c .before .stands .ensures) (c .if1 .taken)
+
+returns : tie.Need-returns
+returns c =
+    let a = c .before .before .before .before .args in
+    load-inside 8 (now (a .s)) (a .at) (c .before .before .stands .ensures) (c .before .if1 .taken) (c .load64 .ensures)
+
+returns-2 : tie.Need-returns-2
+returns-2 c =
+    let a = c .before .before .before .args in
+    load-outside 8 (now (a .s)) (a .at) (c .before .stands .ensures) (c .if1 .left)
+
+pub u64-at-spec : {M : Type 1} → statement M
+u64-at-spec = tie.close (tie.spec stands-requires load64-requires returns returns-2)

@@ -1,0 +1,6 @@
+pub mod Results
+pub mod Fields
+pub mod Same
+pub mod Computing
+pub mod Cases
+pub mod Controls

@@ -1,0 +1,109 @@
+// The format of skeleton and joint sections: refusals, record sizes and constants. What each call means stands in `specs/`.
+ghost use mathlib.Core.Path.{_≡_};
+ghost use Rattle.format.specs.Refusal.{number};
+
+// ---- addresses: the lower 28 bits are the offset in one of the two halves of a section
+
+pub const SYSTEM_BASE: u64 = 0x5000_0000;
+
+pub const GRAPHICS_BASE: u64 = 0x6000_0000;
+
+// ---- records: their sizes in bytes
+
+pub const SKELETON_SIZE: usize = 112;
+
+pub const BLOCK_HEADER_SIZE: usize = 16;
+
+pub const BONE_SIZE: usize = 80;
+
+pub const ENTRY_SIZE: usize = 16;
+
+pub const MATRIX_SIZE: usize = 64;
+
+pub const JOINTS_SIZE: usize = 64;
+
+pub const ROTATION_LIMIT_SIZE: usize = 192;
+
+pub const TRANSLATION_LIMIT_SIZE: usize = 64;
+
+// ---- records: the bytes that must stand for the fields read; what lies behind the last field need not
+
+pub const SKELETON_READ: usize = 98;
+
+pub const BONE_READ: usize = 70;
+
+pub const JOINTS_READ: usize = 52;
+
+// ---- the kind words that our writer stores
+
+pub const SKELETON_KIND: u32 = 1080114336;
+
+pub const JOINTS_KIND: u32 = 1080130656;
+
+// ---- limits
+
+// the most bones, child entries or limits that a 16-bit count holds
+pub const MOST: usize = 65535;
+
+// the longest name that our writer takes, in bytes
+pub const LONGEST_NAME: usize = 255;
+
+// Why a call refuses. The comment gives document 01's number, who causes it, and when.
+pub enum Refusal {
+    // 1, the caller: a lent table is too short.
+    TableTooShort,
+    // 2, whoever made the bones: more than 65,535 of them.
+    TooManyBones,
+    // 3, whoever made the bones: more than 65,535 child entries, in writing only.
+    TooManyChildren,
+    // 4, whoever made the bones: a name over 255 bytes, holding a zero byte or not lying in the lent name bytes, in writing only.
+    BadName,
+    // 5, the caller: the output buffer is shorter than the section or record to write.
+    BufferTooShort,
+    // 6, whoever made the limits: more than 65,535 in either list.
+    TooManyLimits,
+    // 10, whoever wrote the section: an address not 0 that is in neither half.
+    BadAddress,
+    // 11, whoever wrote the section: an address past its half's end, or fields or an array running past it.
+    PastTheEnd,
+    // 12, whoever wrote the section: an address already read as another kind.
+    OtherKind,
+    // 13, whoever wrote the section: a bones pointer from 1 to 15.
+    BonesPointer,
+    // 14, whoever wrote the section, lookup only: a chain too long.
+    ChainTooLong,
+    // 21, whoever derived the tables, check only: the chains.
+    Chains,
+    // 22, likewise: the parents.
+    Parents,
+    // 23, likewise: the children.
+    Children,
+    // 24, likewise: the inverse matrices.
+    Inverse,
+    // 25, likewise: the local matrices.
+    Local,
+}
+
+// The number that document 01 gives the refusal.
+pub fn code(r: Refusal) -> u32
+    ensures answer { λ n. ⌜ n ≡ number r ⌝ }
+{
+    match r {
+        Refusal::TableTooShort => 1,
+        Refusal::TooManyBones => 2,
+        Refusal::TooManyChildren => 3,
+        Refusal::BadName => 4,
+        Refusal::BufferTooShort => 5,
+        Refusal::TooManyLimits => 6,
+        Refusal::BadAddress => 10,
+        Refusal::PastTheEnd => 11,
+        Refusal::OtherKind => 12,
+        Refusal::BonesPointer => 13,
+        Refusal::ChainTooLong => 14,
+        Refusal::Chains => 21,
+        Refusal::Parents => 22,
+        Refusal::Children => 23,
+        Refusal::Inverse => 24,
+        Refusal::Local => 25,
+    }
+}

@@ -1,0 +1,17 @@
+pub mod Lists
+pub mod Chains
+pub mod Links
+pub mod Pool
+pub mod EntryRows
+pub mod ReadChains
+pub mod Along
+pub mod Check
+pub mod Frames
+pub mod RoomSteps
+pub mod RoomStores
+pub mod RoomChains
+pub mod RoomReading
+pub mod Room
+pub mod Exact
+pub mod Found
+pub mod Sense
