@@ -48,6 +48,12 @@ pub const MOST: usize = 65535;
 // the longest name that our writer takes, in bytes
 pub const LONGEST_NAME: usize = 255;
 
+// Where a name lies: its address and its length in bytes. Where a row holds one, address 0 is no name.
+pub struct Place {
+    pub address: u64,
+    pub size: u64,
+}
+
 // Why a call refuses. The comment gives document 01's number, who causes it, and when.
 pub enum Refusal {
     // 1, the caller: a lent table is too short.

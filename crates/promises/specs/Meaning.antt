@@ -51,7 +51,7 @@ abbrev pub linksRead : Option Rows → Tables → List ℕ
 linksRead none t = []
 linksRead (some r) t = take (r .count) (drop (r .first) t.chained.buckets)
 
--- a chain is the tags and positions met along its links until 0
+-- a chain is the tags and positions met along its links until 0; every link that reading stores leads to a row
 abbrev pub ChainFrom : List EntryRow → ℕ → List Entry → Type 0
 ChainFrom es zero [] = Unit {0}
 ChainFrom es zero (e ∷ c) = ⊥
@@ -122,11 +122,6 @@ pub record BoneFits {N : Type 0} (b : Bone N) : Type 0 where
   pub tag : b .tag < 256 ^ 2
   pub kept : Fits4 (b .kept)
 
--- every byte of both halves is one
-pub record BytesFit (sec : Section) : Type 0 where
-  pub system : Each (λ b. b < 256) (sec .system)
-  pub graphics : Each (λ b. b < 256) (sec .graphics)
-
 -- ---- written and read back
 
 -- The written section reads back these bones, whose names lie in the lent halves: as many, in order, every stored field, the kept words
@@ -136,6 +131,7 @@ pub record ReadsBack (lent : Section) (bones : List (Bone Place)) (free : Words4
   pub tables : Tables
   pub reads : ReadsTo sec base skeleton tables
   pub same : named sec (bonesRead (skeleton .bones) tables) ≡ named lent bones
+  pub kindWord : skeleton .kind ≡ 1080114336
   pub freeWords : skeleton .free ≡ free
   pub accepted :
       (room : Room) (droom : DeriveRoom) → Holds room tables → T (derives droom (length bones)) →

@@ -1,0 +1,5 @@
+pub mod Places
+pub mod Names
+pub mod Kinds
+pub mod Hashed
+pub mod Pool

@@ -1,0 +1,148 @@
+// The pool: a lent table that maps an address to what was read there (document 01, "Finding bytes"; `cached_as` and `cache` of
+// `src/blocks/mod.rs`), searched by the address's hash. A row is four words: the address, the kind's code, and the first and the
+// count of what is stored (of a name, its address and its size). Code 0 marks a free row, so that any address has its row. A
+// table of n words has n / 4 rows; the words behind the last row are not used.
+// Callers carry `Represents t n q`, that the table t of n rows holds the pool q, from `clear` through every `put`. Of a table
+// that holds no pool nothing is promised but safety.
+ghost use mathlib.Core.Path.{_≡_};
+ghost use Prim.Native.Nat.{_≤_, _<_};
+ghost use lib.ListN.{length};
+ghost use Rattle.format.specs.Rows.{cleared};
+ghost use Rattle.blocks.specs.Kinds.{meantKind};
+ghost use Rattle.blocks.specs.Hashed.{rowsOf, homeOf, Scanned, Placed};
+ghost use Rattle.blocks.specs.Pool.{rowOf, Finds, FindsAs, Stores};
+use crate::kinds::Kind;
+use format::Refusal;
+
+// The words of a row.
+pub const POOL_WORDS: usize = 4;
+
+// What was read at an address.
+pub enum Found {
+    Nothing,
+    // the kind, and the first and the count of what is stored
+    At(Kind, u64, u64),
+}
+
+// What was read at an address as a kind.
+pub enum Cached {
+    Nothing,
+    // the first and the count of what is stored
+    At(u64, u64),
+    // 12: another kind was read there
+    Refused(Refusal),
+}
+
+// Whether a row was stored.
+pub enum Stored {
+    Done,
+    // 1: no row is free, and the address has none; the table is as it was
+    Full,
+}
+
+// Clears a table, every word of it: it holds the empty pool.
+pub fn clear(pool: &mut [u64])
+    ensures table { λ _. ⌜ now (pool .exit) ≡ cleared (length (now (pool .entry))) ⌝ }
+{
+    let mut i = 0;
+    while i < pool.len() {
+        pool[i] = 0;
+        i += 1;
+    }
+}
+
+// The row at which the search for an address starts. The mix spreads addresses that are evenly spaced, as a section's are.
+fn home(va: u64, rows: usize) -> usize
+    requires { ⌜ 0 < rows ⌝ }
+    ensures { λ r. ⌜ (r ≡ homeOf va rows) × (r < rows) ⌝ }
+{
+    let mixed = va / 16 % 4294967296 * 2654435769 / 65536;
+    (mixed % (rows as u64)) as usize
+}
+
+// The first row of `from` .. `to` that is free or has the address, else `to`.
+fn scan(pool: &[u64], va: u64, from: usize, to: usize) -> usize
+    requires { ⌜ (from ≤ to) × (to ≤ rowsOf (now pool)) ⌝ }
+    ensures { λ r. ⌜ Scanned (now (pool .entry)) va from to r ⌝ }
+{
+    let mut i = from;
+    while i < to {
+        if pool[POOL_WORDS * i + 1] == 0 {
+            return i;
+        }
+        if pool[POOL_WORDS * i] == va {
+            return i;
+        }
+        i += 1;
+    }
+    i
+}
+
+// The row at which the search for an address ends: its own, or the first free row from its home on, around the end; the number
+// of rows if there is neither. Two straight scans: from the home to the end, and from the start to the home.
+fn place(pool: &[u64], va: u64) -> usize
+    ensures { λ r. ⌜ Placed (now (pool .entry)) va r ⌝ }
+{
+    let rows = pool.len() / POOL_WORDS;
+    if rows == 0 {
+        return 0;
+    }
+    let h = home(va, rows);
+    let i = scan(pool, va, h, rows);
+    if i < rows {
+        return i;
+    }
+    let j = scan(pool, va, 0, h);
+    if j < h {
+        return j;
+    }
+    rows
+}
+
+// What was read at an address.
+pub fn find(pool: &[u64], va: u64) -> Found
+    ensures answer { λ r. ⌜ Finds (now (pool .entry)) va r ⌝ }
+{
+    let i = place(pool, va);
+    if i < pool.len() / POOL_WORDS {
+        let code = pool[POOL_WORDS * i + 1];
+        if code != 0 {
+            let first = pool[POOL_WORDS * i + 2];
+            let count = pool[POOL_WORDS * i + 3];
+            return Found::At(Kind::from_code(code), first, count);
+        }
+    }
+    Found::Nothing
+}
+
+// What was read at an address as a kind; 12 where another kind was.
+pub fn cached_as(pool: &[u64], kind: Kind, va: u64) -> Cached
+    ensures answer { λ r. ⌜ FindsAs (now (pool .entry)) (meantKind kind) va r ⌝ }
+{
+    match find(pool, va) {
+        Found::Nothing => Cached::Nothing,
+        Found::At(k, first, count) => {
+            if k.same(kind) {
+                return Cached::At(first, count);
+            }
+            Cached::Refused(Refusal::OtherKind)
+        }
+    }
+}
+
+// Pools what was read at an address, in the place of the earlier row of the address if there is one. The table then holds the
+// pool with the row; of a full table every word is as it was.
+pub fn put(pool: &mut [u64], va: u64, kind: Kind, first: u64, count: u64) -> Stored
+    ensures table { λ r. ⌜ Stores (rowOf va (meantKind kind) first count) r (now (pool .entry)) (now (pool .exit)) ⌝ }
+{
+    let i = place(pool, va);
+    if pool.len() / POOL_WORDS <= i {
+        return Stored::Full;
+    }
+    let code = kind.code();
+    pool[POOL_WORDS * i] = va;
+    pool[POOL_WORDS * i + 1] = code;
+    pool[POOL_WORDS * i + 2] = first;
+    pool[POOL_WORDS * i + 3] = count;
+    Stored::Done
+}

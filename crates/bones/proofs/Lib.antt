@@ -1,0 +1,4 @@
+pub mod Words
+pub mod Storing
+pub mod ReadBack
+pub mod Rows

@@ -1,0 +1,18 @@
+-- `bones::index_at` meets its contract. Assumes nothing.
+use Rattle.format.specs.Rows.{boneOf}
+use borrow.Author.Needs.{needs}
+use Rattle.bones.proofs.index_at.Statement.{statement}
+use Rattle.bones.proofs.index_at.Tie as tie
+
+word-at-requires : tie.Need-word-at-requires
+word-at-requires c κs = search needs
+
+upper-half-requires : tie.Need-upper-half-requires
+upper-half-requires c κs = search needs
+
+returns : tie.Need-returns
+unfolding boneOf
+returns c = cc
+
+pub index-at-spec : {M : Type 1} → statement M
+index-at-spec = tie.close (tie.spec word-at-requires upper-half-requires returns)
