@@ -4,6 +4,5 @@ pub mod Codes
 pub mod Entering
 pub mod Search
 pub mod Scanning
-pub mod Zeroing
 pub mod Table
 pub mod Storing

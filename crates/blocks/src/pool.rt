@@ -2,12 +2,10 @@
 // `src/blocks/mod.rs`), searched by the address's hash. A row is four words: the address, the kind's code, and the first and the
 // count of what is stored (of a name, its address and its size). Code 0 marks a free row, so that any address has its row. A
 // table of n words has n / 4 rows; the words behind the last row are not used.
-// Callers carry `Represents t n q`, that the table t of n rows holds the pool q, from `clear` through every `put`. Of a table
-// that holds no pool nothing is promised but safety.
+// Callers carry `Represents t n q`, that the table t of n rows holds the pool q, from the cleared table, which holds the empty pool,
+// through every `put`. Of a table that holds no pool nothing is promised but safety.
 ghost use mathlib.Core.Path.{_≡_};
 ghost use Prim.Native.Nat.{_≤_, _<_};
-ghost use lib.ListN.{length};
-ghost use Rattle.format.specs.Rows.{cleared};
 ghost use Rattle.blocks.specs.Kinds.{meantKind};
 ghost use Rattle.blocks.specs.Hashed.{rowsOf, homeOf, Scanned, Placed};
 ghost use Rattle.blocks.specs.Pool.{rowOf, Finds, FindsAs, Stores};
@@ -38,17 +36,6 @@ pub enum Stored {
     Done,
     // 1: no row is free, and the address has none; the table is as it was
     Full,
-}
-
-// Clears a table, every word of it: it holds the empty pool.
-pub fn clear(pool: &mut [u64])
-    ensures table { λ _. ⌜ now (pool .exit) ≡ cleared (length (now (pool .entry))) ⌝ }
-{
-    let mut i = 0;
-    while i < pool.len() {
-        pool[i] = 0;
-        i += 1;
-    }
 }
 
 // The row at which the search for an address starts. The mix spreads addresses that are evenly spaced, as a section's are.

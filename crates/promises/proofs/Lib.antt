@@ -1,3 +1,4 @@
+pub mod Each
 pub mod Lists
 pub mod Chains
 pub mod Links
@@ -14,7 +15,6 @@ pub mod RoomReading
 pub mod Room
 pub mod Exact
 pub mod Found
-pub mod Each
 pub mod MatrixWords
 pub mod NamesIgnored
 pub mod LayoutParts
