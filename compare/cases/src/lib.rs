@@ -3,12 +3,14 @@
 
 pub mod damage;
 pub mod hand;
+pub mod joints;
 pub mod limits;
 pub mod places;
 pub mod random;
 pub mod records;
 pub mod rigs;
 pub mod rng;
+pub mod rows;
 pub mod scattered;
 pub mod section;
 pub mod trial;

@@ -43,6 +43,10 @@ pub mod matrix {
 pub mod joints {
     pub const SIZE: usize = 64;
     pub const KIND_WORD: u32 = 1_080_130_656;
+    pub const ROTATIONS: usize = 16;
+    pub const TRANSLATIONS: usize = 24;
+    pub const ROTATION_COUNT: usize = 48;
+    pub const TRANSLATION_COUNT: usize = 50;
     pub const ROTATION_LIMIT: usize = 192;
     pub const TRANSLATION_LIMIT: usize = 64;
 }

@@ -4,6 +4,9 @@ use crate::rng::Rng;
 use crate::words::{word, words, Temper};
 use oracle::Bone;
 
+/// Tags are drawn below one of these.
+const TAGS: [usize; 4] = [4, 12, 40, 65_536];
+
 /// How indices and parents are drawn.
 #[derive(Clone, Copy)]
 enum Shape {
@@ -28,26 +31,51 @@ pub fn rig(rng: &mut Rng) -> Vec<Bone> {
 /// A rig of `n` bones.
 pub fn rig_of(rng: &mut Rng, n: usize) -> Vec<Bone> {
     let shape = rng.pick(&[Shape::Tree, Shape::Tree, Shape::Tree, Shape::Chain, Shape::Small, Shape::Negative, Shape::Any]);
-    let temper = Temper::draw(rng);
-    let tags = rng.pick(&[4usize, 12, 40, 65_536]);
-    let names = rng.below(4);
+    let (temper, tags, names) = (Temper::draw(rng), rng.pick(&TAGS), rng.below(4));
     (0..n)
         .map(|i| {
-            let (index, parent) = place(rng, shape, i, n);
-            Bone {
-                rotation: words(rng, temper),
-                translation: words(rng, temper),
-                scale: words(rng, temper),
-                next_sibling: rng.next() as i16,
-                parent,
-                name: if names == 0 { None } else { name(rng) },
-                flags: rng.next() as u16,
-                index,
-                tag: tag(rng, tags),
-                kept: std::array::from_fn(|_| word(rng, Temper::Wild)),
-            }
+            let at = place(rng, shape, i, n);
+            bone(rng, at, temper, tags, names > 0)
         })
         .collect()
+}
+
+/// A tree of up to 65,535 bones in which no index comes twice: each parent lies before its bone and below 32,767, or
+/// is -1.
+pub fn tree(rng: &mut Rng, n: usize) -> Vec<Bone> {
+    unlike(rng, n, |rng, i| rng.below(i.min(32_767) + 1) as i16 - 1)
+}
+
+/// A chain in which no index comes twice. Parents are signed: from bone 32,769 on they are negative, and those
+/// bones are roots.
+pub fn chain(rng: &mut Rng, n: usize) -> Vec<Bone> {
+    unlike(rng, n, |_, i| (i as i16).wrapping_sub(1))
+}
+
+fn unlike(rng: &mut Rng, n: usize, parent: impl Fn(&mut Rng, usize) -> i16) -> Vec<Bone> {
+    let tags = rng.pick(&TAGS);
+    (0..n)
+        .map(|i| {
+            let at = (i as i16, parent(rng, i));
+            bone(rng, at, Temper::Tame, tags, false)
+        })
+        .collect()
+}
+
+/// A bone of the given index and parent.
+fn bone(rng: &mut Rng, (index, parent): (i16, i16), temper: Temper, tags: usize, named: bool) -> Bone {
+    Bone {
+        rotation: words(rng, temper),
+        translation: words(rng, temper),
+        scale: words(rng, temper),
+        next_sibling: rng.next() as i16,
+        parent,
+        name: if named { name(rng) } else { None },
+        flags: rng.next() as u16,
+        index,
+        tag: tag(rng, tags),
+        kept: std::array::from_fn(|_| word(rng, Temper::Wild)),
+    }
 }
 
 fn place(rng: &mut Rng, shape: Shape, i: usize, n: usize) -> (i16, i16) {

@@ -8,20 +8,21 @@ use crate::units;
 use oracle::{build_bone_tags, build_indices, build_transformations, settle_nan, Bone, Matrix, GRAPHICS_BASE, SYSTEM_BASE};
 
 /// The lengths of the parts and, once placed, their addresses.
-struct Places {
+#[derive(Default)]
+pub(crate) struct Places {
     lengths: Vec<usize>,
-    addresses: Vec<u64>,
+    pub(crate) addresses: Vec<u64>,
 }
 
 impl Places {
     /// A new part; an empty one has the address 0.
-    fn add(&mut self, length: usize) -> usize {
+    pub(crate) fn add(&mut self, length: usize) -> usize {
         self.lengths.push(length);
         self.lengths.len() - 1
     }
 
     /// Gives every part an address; the lengths of the two halves come back.
-    fn scatter(&mut self, rng: &mut Rng) -> (usize, usize) {
+    pub(crate) fn scatter(&mut self, rng: &mut Rng) -> (usize, usize) {
         let mut order: Vec<usize> = (0..self.lengths.len()).collect();
         rng.shuffle(&mut order);
         self.addresses = vec![0; self.lengths.len()];
@@ -41,7 +42,7 @@ pub fn scattered(rng: &mut Rng, bones: &[Bone], free: [u32; 4]) -> Section {
     let chains = build_bone_tags(bones);
     let (parents, children) = build_indices(bones);
     let (local, inverse) = build_transformations(bones);
-    let mut places = Places { lengths: Vec::new(), addresses: Vec::new() };
+    let mut places = Places::default();
     let root = places.add(skeleton::SIZE);
     let buckets = places.add(8 * chains.len());
     let entries: Vec<Vec<usize>> = chains.iter().map(|c| c.iter().map(|_| places.add(entry::SIZE)).collect()).collect();

@@ -1,36 +1,26 @@
 //! Damaged sections and truncations: read, checked and looked up with the published Rust.
 
 use crate::model::greatest_position;
+use crate::share::share;
 use crate::tally::{refusal, Tally};
 use cases::{damaged, good, Rng, Section};
 use oracle::{check_reading, lookup, read, Answer, Bone, Found, Verdict};
 use std::panic::{catch_unwind, AssertUnwindSafe};
-use std::thread;
 
 /// Reads `count` damaged sections from `seed` on, shared among `threads`.
 pub fn run(seed: u64, count: u64, threads: u64) -> Result<Tally, String> {
-    let mut tally = Tally::default();
-    thread::scope(|scope| {
-        let part =
-            |t: u64| move || (t..count).step_by(threads as usize).try_fold(Tally::default(), |sum, i| one_damaged(sum, seed + i));
-        let parts: Vec<_> = (0..threads).map(|t| scope.spawn(part(t))).collect();
-        for part in parts {
-            tally.merge(&part.join().map_err(|_| "a thread of the damaged sections stopped".to_string())??);
-        }
-        Ok::<(), String>(())
-    })?;
+    let tally = share(seed, count, threads, one_damaged)?;
     tally.require("read", &["none", "10", "11", "12", "13", "read"])?;
     tally.require("check", &["none", "10", "11", "12", "13", "21", "22", "23", "24", "25", "ok"])?;
     tally.require("lookup", &["none", "10", "11", "14", "position"])?;
     Ok(tally)
 }
 
-fn one_damaged(mut tally: Tally, seed: u64) -> Result<Tally, String> {
+fn one_damaged(tally: &mut Tally, seed: u64) -> Result<(), String> {
     let case = damaged(seed);
     let tag = Rng::new(seed).below(48) as u32;
-    let asked = catch_unwind(AssertUnwindSafe(|| ask(&mut tally, &case.section, tag))).unwrap_or(Err("a panic".into()));
-    asked.map_err(|e| format!("damaged section, seed {seed}, {}: {e}", case.changes.join(" ")))?;
-    Ok(tally)
+    let asked = catch_unwind(AssertUnwindSafe(|| ask(tally, &case.section, tag))).unwrap_or(Err("a panic".into()));
+    asked.map_err(|e| format!("damaged section, seed {seed}, {}: {e}", case.changes.join(" ")))
 }
 
 /// Every truncation of either half of good sections, one section for each of `sections` seeds.

@@ -43,9 +43,22 @@ impl fmt::Display for Tally {
     }
 }
 
+/// The label of a status of our library.
+pub fn status(status: u32) -> &'static str {
+    match status {
+        link::DONE => "done",
+        link::NONE => "none",
+        number => refusal(number as u8),
+    }
+}
+
 /// The label of a refusal number.
 pub fn refusal(number: u8) -> &'static str {
     match number {
+        1 => "1",
+        2 => "2",
+        5 => "5",
+        6 => "6",
         10 => "10",
         11 => "11",
         12 => "12",
@@ -56,6 +69,6 @@ pub fn refusal(number: u8) -> &'static str {
         23 => "23",
         24 => "24",
         25 => "25",
-        _ => panic!("no refusal of reading, lookup or check has the number {number}"),
+        _ => panic!("no refusal has the number {number}"),
     }
 }

@@ -4,8 +4,14 @@
 #[cfg(rig)]
 mod exports;
 
-/// The single fields of `rig`. The comparison takes any implementation, so that a faulty one can be
-/// put in its place.
+/// The status of a call that did what was asked; a refusal is 01's number.
+pub const DONE: u32 = 0;
+
+/// The status of reading at root 0.
+pub const NONE: u32 = 100;
+
+/// The single fields of `rig`. A comparison takes any implementation of its trait, so that a faulty one can
+/// be put in its place.
 pub trait Fields {
     fn u16_at(&self, s: &[u8], at: usize) -> u16;
     fn u32_at(&self, s: &[u8], at: usize) -> u32;
@@ -15,8 +21,51 @@ pub trait Fields {
     fn put64(&self, d: &mut [u8], at: usize, v: u64) -> bool;
 }
 
+/// The tables that follow from the first `n` bones of a table. A call gives its status; the count is that of
+/// the buckets or child entries, 0 after a refusal.
+pub trait Derive: Sync {
+    fn num_hash_buckets(&self, n: usize) -> usize;
+    fn build_bone_tags(&self, bones: &[u32], n: usize, buckets: &mut [u32], entries: &mut [u32], count: &mut usize) -> u32;
+    fn build_indices(
+        &self,
+        bones: &[u32],
+        n: usize,
+        parents: &mut [u16],
+        children: &mut [u16],
+        pending: &mut [u32],
+        count: &mut usize,
+    ) -> u32;
+    fn build_transformations(&self, bones: &[u32], n: usize, inverse: &mut [u32], local: &mut [u32]) -> u32;
+}
+
+/// The hash of names.
+pub trait Hash: Sync {
+    fn rage_joaat(&self, s: &[u8]) -> u32;
+}
+
+/// The kind word, the two stored counts, and for each list whether it stands and how many limits it has.
+pub type JointFields = [u32; 7];
+
+/// Joints. A call gives its status; writing counts its bytes, 0 after a refusal.
+pub trait Joints: Sync {
+    fn joints_read(
+        &self,
+        system: &[u8],
+        graphics: &[u8],
+        root: u64,
+        rotation: &mut [u32],
+        translation: &mut [u32],
+        fields: &mut JointFields,
+    ) -> u32;
+    fn joints_write(&self, rotation: &[u32], r: usize, translation: &[u32], t: usize, out: &mut [u8], count: &mut usize) -> u32;
+    fn fresh_rotation_limit(&self, out: &mut [u32; 48]);
+}
+
+/// All exports.
+pub trait Library: Fields + Derive + Hash + Joints {}
+
 /// The library, if this crate was built with it.
-pub fn fields() -> Option<&'static dyn Fields> {
+pub fn library() -> Option<&'static dyn Library> {
     #[cfg(rig)]
     return Some(&exports::Rig);
     #[cfg(not(rig))]

@@ -9,6 +9,7 @@ mod derive;
 mod fields;
 mod joints;
 mod lookup;
+mod prepared;
 mod read;
 mod refusal;
 mod write;
@@ -21,6 +22,7 @@ pub use derive::{
 pub use fields::{put_u16, put_u32, put_u64, u16_at, u32_at, u64_at};
 pub use joints::{fresh_rotation_limit, joints_read, joints_write, Joints, JointsAnswer, RotationLimit, TranslationLimit};
 pub use lookup::{lookup, Found};
+pub use prepared::{PreparedBones, PreparedLimits, PreparedSection};
 pub use rage_formats::hash::rage_joaat;
 pub use rage_formats::math::{Mat4, Vec3, Vec4};
 pub use rage_formats::resource::{ResReader, GRAPHICS_BASE, SYSTEM_BASE};

@@ -3,7 +3,7 @@ use mathlib.Core.Path.{_≡_, refl, sym, ap, _∙_}
 use Prim.Native.Nat.{ℕ, _<_}
 use native.Mathlib.Omega.{arith}
 use borrow.Author.Tests.{ne-eqb}
-use Rattle.format.specs.Tables.{ListTable, inverseTable, localTable, parentsTable, childrenTable}
+use Rattle.format.specs.Tables.{inverseTable, localTable, parentsTable, childrenTable}
 use Rattle.format.specs.Tables.{Kind, skeleton, buckets, entry, block, bone, string, list}
 use Rattle.blocks.specs.Kinds.{kindCode, kindFrom}
 

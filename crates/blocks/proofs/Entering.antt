@@ -9,7 +9,7 @@ use native.Mathlib.Omega.{arith}
 use borrow.Author.Tests.{eq-eqb, ne-eqb, eqb-true}
 use lib.Dec.{eqb, ltb}
 use lib.ListN.{length}
-use Rattle.format.specs.Result.{Res, done, refused, _>>=_, need}
+use Rattle.format.specs.Result.{done, _>>=_, need}
 use Rattle.format.specs.Tables.{Pooled, Tables, Room, withPool, find, replace, putOver}
 use Rattle.blocks.specs.Pool.{enter, enterOver}
 

@@ -6,7 +6,7 @@ use Prim.Native.Nat.{ℕ, zero, suc, _+_, _*_, _<_, _≤_}
 use native.Mathlib.Nat.{eq-or-lt-of-le}
 use native.Mathlib.Omega.{arith}
 use lib.ListN.{getD}
-use Rattle.blocks.specs.Hashed.{rowsOf, keyOf, key, homeOf, Other, Reaches, Scanned, Placed}
+use Rattle.blocks.specs.Hashed.{rowsOf, keyOf, key, homeOf, Other, Scanned, Placed}
 use Rattle.blocks.proofs.Search.{reaches-high, reaches-low, all-rows}
 
 -- ---- a row by its words

@@ -7,13 +7,13 @@ use Prim.Native.Nat.{ℕ, _+_, _-_, _/_, _%_, _≤_}
 use native.Mathlib.Nat.{add-zero}
 use native.Mathlib.Omega.{arith}
 use borrow.Author.Tests.{eq-eqb, ne-eqb, leb-true}
-use lib.Dec.{leb, eqb}
+use lib.Dec.{leb}
 use lib.ListN.{length, take, drop}
 use Rattle.format.specs.Result.{Res, refused, done, _>>=_, need}
 use Rattle.format.specs.Refusal.{number}
 use Rattle.format.specs.declared.Refusal.{Refusal}
 use Rattle.format.specs.declared.Refusal.the-variants.{BadAddress, PastTheEnd}
-use Rattle.format.specs.Section.{Section, Spot, window, inHalf, spot, cursor, part, orNone}
+use Rattle.format.specs.Section.{Section, Spot, window, spot, cursor, part, orNone}
 use Rattle.blocks.specs.declared.places.Located.{Located}
 use Rattle.blocks.specs.declared.places.Located.the-variants.{System, Graphics, Refused}
 use Rattle.blocks.specs.Places.{spotIn, standing, spotOf, bytesOf, Locates}

@@ -15,7 +15,7 @@ use Rattle.blocks.specs.Kinds.{kindCode, kindFrom}
 use Rattle.blocks.specs.declared.pool.Found.{Found}
 use Rattle.blocks.specs.declared.pool.Stored.{Stored}
 use Rattle.blocks.specs.declared.pool.Stored.the-variants.{Done, Full}
-use Rattle.blocks.specs.Hashed.{rowsOf, keyOf, key, val, used, Holds, Represents, Placed}
+use Rattle.blocks.specs.Hashed.{rowsOf, key, val, Holds, Represents, Placed}
 use Rattle.blocks.specs.Pool.{meantFound, meantStored, enter, Finds, Left, Entered, Stores}
 use Rattle.blocks.proofs.Codes.{kindCode-pos, kindFrom-kindCode}
 use Rattle.blocks.proofs.Entering.{find-replace-same, find-replace-other, length-replace}

@@ -1,9 +1,9 @@
 -- Our kinds as the definitions have them, and the word that stands for each in a row of the pool. Definitions only.
 use Prim.Native.Nat.{ℕ}
-use mathlib.Core.Bool.{Bool, cond}
+use mathlib.Core.Bool.{cond}
 use lib.Dec.{eqb}
 use Rattle.format.specs.Tables as Tables
-use Rattle.format.specs.Tables.{inverseTable, localTable, parentsTable, childrenTable, tableNumber}
+use Rattle.format.specs.Tables.{inverseTable, localTable, parentsTable, childrenTable}
 use Rattle.format.specs.Tables.{skeleton, buckets, entry, block, bone, string, list}
 use Rattle.blocks.specs.declared.kinds.ListTable.{ListTable}
 use Rattle.blocks.specs.declared.kinds.ListTable.the-variants.{Inverse, Local, Parents, Children}

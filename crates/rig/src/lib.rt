@@ -4,6 +4,9 @@ ghost use mathlib.Core.Path.{_≡_};
 ghost use Rattle.format.specs.Field.{stands, fieldAt, putAt};
 ghost use Rattle.fields.specs.Placed.{placed};
 
+mod derived; // the tables that follow from the bones
+mod names; // the hash of a name
+
 // ---- reading: the number, or 0 where the field does not lie wholly in the slice
 
 #[no_mangle]

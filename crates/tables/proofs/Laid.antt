@@ -2,7 +2,7 @@
 use Prim.Native.Nat.{ℕ, zero, suc, _+_, _-_, _≤_, _<_}
 use native.Mathlib.Omega.{arith}
 use native.Mathlib.Nat.{sub-zero}
-use mathlib.Core.Path.{_≡_, refl, sym, ap, _∙_}
+use mathlib.Core.Path.{_≡_, sym, ap, _∙_}
 use mathlib.Core.List.{List, [], _∷_, _++_, append-nil, append-assoc}
 use lib.ListN.{length, getD, set, replicate, length-append, length-replicate, List·getD-append, replicate-append-replicate}
 use lib.Seq.{sets, set-append-left, set-append-seam}
@@ -43,3 +43,12 @@ pub sets-laid : (vs w : List ℕ) (n at : ℕ) → length w ≡ at → at + leng
 sets-laid vs w n at e h =
     let k : n - length w - length vs ≡ n - (length w + length vs) = omega arith in
     simp (sym e, sets-seam vs w (n - length w) (omega arith), length-append, k)
+
+-- ---- tables that were cleared
+
+module _ (t : List ℕ) {t′ : List ℕ} (z : t′ ≡ cleared (length t)) where
+  pub length-cleared : length t′ ≡ length t
+  length-cleared = ap length z ∙ length-replicate (length t) 0
+
+  pub still-cleared : t′ ≡ cleared (length t′)
+  still-cleared = z ∙ ap cleared (sym length-cleared)

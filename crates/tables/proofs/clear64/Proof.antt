@@ -1,19 +1,19 @@
 -- `tables::clear64` meets its contract: `Filled` holds at each turn. Assumes nothing.
 use Prim.Native.Nat.{_-_}
 use lib.ListN.{length}
-use Rattle.tables.proofs.Fill.{Filled, filled-none, filled-more, filled-all}
+use Rattle.tables.proofs.Fill.{Filled, filled-none, filled-more, filled-zero}
 use borrow.Author.Needs.{needs}
 use Rattle.tables.proofs.clear64.Statement.{statement}
 use Rattle.tables.proofs.clear64.Tie as tie
 
 abbrev Inv-loop : tie.InvT-loop
-Inv-loop t₀ i₀ t i = Filled t₀ t i
+Inv-loop t₀ i₀ t i = Filled t₀ 0 t i
 
 abbrev μ-loop : tie.MeasureT-loop
 μ-loop t₀ i₀ t i = length t₀ - i
 
 loop-holds : tie.Need-loop-holds Inv-loop μ-loop
-loop-holds c = filled-none _
+loop-holds c = filled-none _ _
 
 mul-t : tie.Need-mul-t Inv-loop μ-loop
 mul-t c = search needs
@@ -34,7 +34,7 @@ same-length : tie.Need-same-length Inv-loop μ-loop
 same-length c = search needs
 
 returns : tie.Need-returns Inv-loop μ-loop
-returns c = filled-all (c .before .loop .inv) (c .loop-test .left)
+returns c = filled-zero (c .before .loop .inv) (c .loop-test .left)
 
 pub clear64-spec : {M : Type 1} → statement M
 clear64-spec =

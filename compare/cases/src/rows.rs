@@ -1,0 +1,89 @@
+//! Bones, chains and limits as rows of words, the form in which our library's tables hold them.
+
+use crate::rng::Rng;
+use oracle::{Bone, Chains, RotationLimit, TranslationLimit};
+
+/// The words of a row.
+pub const BONE: usize = 21;
+pub const ENTRY: usize = 3;
+pub const MATRIX: usize = 16;
+pub const ROTATION: usize = 55;
+pub const TRANSLATION: usize = 23;
+
+fn pair(lower: u16, upper: u16) -> u32 {
+    lower as u32 | (upper as u32) << 16
+}
+
+fn halves(word: u32) -> (u16, u16) {
+    (word as u16, (word >> 16) as u16)
+}
+
+fn taken<const N: usize>(row: &[u32], at: usize) -> [u32; N] {
+    std::array::from_fn(|i| row[at + i])
+}
+
+/// The rows of the bones. What deriving does not look at, the upper half of word 12 and the name's place, is drawn.
+pub fn bones(rng: &mut Rng, bones: &[Bone]) -> Vec<u32> {
+    let mut out = Vec::with_capacity(BONE * bones.len());
+    for b in bones {
+        out.extend(b.rotation);
+        out.extend(b.translation);
+        out.extend(b.scale);
+        out.extend([pair(b.next_sibling as u16, b.parent as u16), pair(b.flags, b.index as u16)]);
+        out.push(pair(b.tag, rng.next() as u16));
+        out.extend(b.kept);
+        out.extend([0; 4].map(|_: u32| rng.next() as u32));
+    }
+    out
+}
+
+/// The bone of a row, without its name.
+pub fn bone(row: &[u32]) -> Bone {
+    let ((next_sibling, parent), (flags, index)) = (halves(row[10]), halves(row[11]));
+    Bone {
+        rotation: taken(row, 0),
+        translation: taken(row, 4),
+        scale: taken(row, 7),
+        next_sibling: next_sibling as i16,
+        parent: parent as i16,
+        name: None,
+        flags,
+        index: index as i16,
+        tag: row[12] as u16,
+        kept: taken(row, 13),
+    }
+}
+
+/// The bucket words and the entry rows of chains in which each of `n` positions comes once: row p is position
+/// p's, and a bucket or a link is 0 or one more than the row that it leads to.
+pub fn chains(chains: &Chains, n: usize) -> (Vec<u32>, Vec<u32>) {
+    let link = |e: Option<&(u32, u32)>| e.map_or(0, |&(_, position)| position + 1);
+    let buckets: Vec<u32> = chains.iter().map(|c| link(c.first())).collect();
+    let mut entries = vec![0; if chains.is_empty() { 0 } else { ENTRY * n }];
+    for chain in chains {
+        for (i, &(tag, position)) in chain.iter().enumerate() {
+            let row = ENTRY * position as usize;
+            entries[row..row + ENTRY].copy_from_slice(&[tag, position, link(chain.get(i + 1))]);
+        }
+    }
+    (buckets, entries)
+}
+
+/// The row of a rotation limit: id and second number, least, greatest, the 48 slots.
+pub fn rotation(l: &RotationLimit) -> Vec<u32> {
+    [&[pair(l.id, l.second)][..], &l.min, &l.max, &l.other].concat()
+}
+
+pub fn rotation_limit(row: &[u32]) -> RotationLimit {
+    let (id, second) = halves(row[0]);
+    RotationLimit { id, second, min: taken(row, 1), max: taken(row, 4), other: taken(row, 7) }
+}
+
+/// The row of a translation limit: id, least, greatest, the 16 slots.
+pub fn translation(l: &TranslationLimit) -> Vec<u32> {
+    [&[l.id][..], &l.min, &l.max, &l.other].concat()
+}
+
+pub fn translation_limit(row: &[u32]) -> TranslationLimit {
+    TranslationLimit { id: row[0], min: taken(row, 1), max: taken(row, 4), other: taken(row, 7) }
+}

@@ -1,0 +1,203 @@
+//! Deriving: our library against the published Rust, every word of every lent table compared.
+
+mod runs;
+
+pub use runs::run;
+
+use crate::difference::Input;
+use crate::lent::Lent;
+use cases::{rows, Rng};
+use link::{Derive, DONE};
+use oracle::{
+    build_bone_tags, build_indices, build_transformations, num_hash_buckets, settle_nan, Bone, Chains, Matrix,
+};
+
+#[derive(Clone, Copy, Debug, PartialEq, Eq)]
+pub enum Call {
+    Tags,
+    Indices,
+    Matrices,
+}
+use Call::*;
+
+impl Call {
+    pub fn name(self) -> &'static str {
+        match self {
+            Tags => "tags",
+            Indices => "indices",
+            Matrices => "matrices",
+        }
+    }
+
+    /// The words of each table that `n` bones need (01, "Who can cause a refusal"), the bones table apart.
+    pub fn sizes(self, n: usize) -> Vec<usize> {
+        match self {
+            Tags if n < 2 => vec![0, 0],
+            Tags => vec![num_hash_buckets(n), rows::ENTRY * n],
+            Indices => vec![n, 8 * (n + 1), 2 * 4 * (n + 1)],
+            Matrices => vec![rows::MATRIX * n, rows::MATRIX * n],
+        }
+    }
+}
+
+/// The most bones that are not refused.
+const MOST: usize = 65_535;
+
+/// A call and what it is lent.
+#[derive(Clone, Debug)]
+pub struct DeriveInput {
+    pub call: Call,
+    /// The bones table.
+    pub bones: Vec<u32>,
+    /// The number of bones asked for.
+    pub n: usize,
+    /// How many words each table has more than `n` bones need.
+    pub room: [isize; 3],
+    /// The seed of what the tables hold at entry.
+    pub dirt: u64,
+}
+
+impl DeriveInput {
+    /// The words of each lent table. A count of more than 65,536 is refused whatever they are.
+    fn lengths(&self) -> Vec<usize> {
+        let sizes = self.call.sizes(if self.n <= MOST + 1 { self.n } else { 0 });
+        sizes.iter().zip(self.room).map(|(&size, room)| size.saturating_add_signed(room)).collect()
+    }
+
+    /// 2, then 1, as 01 has it.
+    pub fn status(&self) -> u32 {
+        let fits = || {
+            let mut tables = self.lengths().into_iter().zip(self.call.sizes(self.n));
+            self.bones.len() >= rows::BONE * self.n && tables.all(|(length, size)| length >= size)
+        };
+        match self.n {
+            n if n > MOST => 2,
+            _ if fits() => DONE,
+            _ => 1,
+        }
+    }
+
+    fn without(&self, cut: std::ops::Range<usize>) -> Self {
+        let rows = self.bones.len() / rows::BONE;
+        let n = if self.n <= rows { self.n.min(rows - cut.len()) } else { self.n };
+        let (front, behind) = (&self.bones[..rows::BONE * cut.start], &self.bones[rows::BONE * cut.end..]);
+        DeriveInput { bones: [front, behind].concat(), n, ..self.clone() }
+    }
+}
+
+impl Input for DeriveInput {
+    fn smaller(&self) -> Vec<Self> {
+        const FEW: usize = 64;
+        let rows = self.bones.len() / rows::BONE;
+        let mut cuts = vec![rows / 2..rows, 0..rows / 2];
+        cuts.extend((0..if rows <= FEW { rows } else { 0 }).map(|row| row..row + 1));
+        let mut out: Vec<Self> = cuts.into_iter().filter(|c| !c.is_empty()).map(|c| self.without(c)).collect();
+        for table in (0..3).filter(|&t| self.room[t] != 0) {
+            let mut room = self.room;
+            room[table] = 0;
+            out.push(DeriveInput { room, ..self.clone() });
+        }
+        let words = if rows <= FEW { self.bones.len() } else { 0 };
+        for at in (0..words).filter(|&at| self.bones[at] != 0) {
+            let mut bones = self.bones.clone();
+            bones[at] = 0;
+            out.push(DeriveInput { bones, ..self.clone() });
+        }
+        out
+    }
+
+    fn text(&self) -> String {
+        let row = |row: &[u32]| row.iter().map(|w| format!(" {w:x}")).collect::<String>();
+        let bones: String = self.bones.chunks(rows::BONE).map(|r| format!("bone{}\n", row(r))).collect();
+        format!("call {:?}\nn {}\nroom {:?}\ndirt {}\n{bones}", self.call, self.n, self.room, self.dirt)
+    }
+}
+
+/// What came back, and every word lent afterwards.
+#[derive(Debug, PartialEq, Eq)]
+pub struct DeriveAnswer {
+    status: u32,
+    count: usize,
+    /// 16-bit entries widened.
+    tables: Vec<Vec<u32>>,
+    /// The chains, by following the links.
+    chains: Chains,
+    /// Bones and guards are as they were.
+    intact: bool,
+}
+
+/// Makes the call on dirty tables between guards.
+pub fn ours(library: &dyn Derive, i: &DeriveInput) -> DeriveAnswer {
+    let (mut rng, lengths, n) = (Rng::new(i.dirt), i.lengths(), i.n);
+    let mut bones = Lent::of(&i.bones);
+    let (mut count, mut intact) = (rng.next() as usize, true);
+    let (status, tables) = match i.call {
+        Tags => {
+            let [mut buckets, mut entries] = [0, 1].map(|t| Lent::<u32>::dirty(lengths[t], &mut rng));
+            let status = library.build_bone_tags(bones.slice(), n, buckets.slice(), entries.slice(), &mut count);
+            (status, vec![buckets.back(&mut intact), entries.back(&mut intact)])
+        }
+        Indices => {
+            let [mut parents, mut children] = [0, 1].map(|t| Lent::<u16>::dirty(lengths[t], &mut rng));
+            let mut pending = Lent::<u32>::dirty(lengths[2], &mut rng);
+            let (p, c, w) = (parents.slice(), children.slice(), pending.slice());
+            let status = library.build_indices(bones.slice(), n, p, c, w, &mut count);
+            (status, vec![parents.back(&mut intact), children.back(&mut intact), pending.back(&mut intact)])
+        }
+        Matrices => {
+            count = 0;
+            let [mut inverse, mut local] = [0, 1].map(|t| Lent::<u32>::dirty(lengths[t], &mut rng));
+            let status = library.build_transformations(bones.slice(), n, inverse.slice(), local.slice());
+            (status, vec![inverse.back(&mut intact), local.back(&mut intact)])
+        }
+    };
+    bones.kept(&i.bones, &mut intact);
+    let chains = if i.call == Tags { follow(tables[0].get(..count).unwrap_or(&[]), &tables[1]) } else { Vec::new() };
+    DeriveAnswer { status, count, tables, chains, intact }
+}
+
+/// The tags and positions met along each bucket's links, one entry more than the table has at most.
+fn follow(buckets: &[u32], entries: &[u32]) -> Chains {
+    let row = |link: u32| entries.chunks_exact(rows::ENTRY).nth((link as usize).checked_sub(1)?);
+    let chain = |first: u32| {
+        let (mut met, mut at) = (Vec::new(), row(first));
+        while let Some(entry) = at {
+            met.push((entry[0], entry[1]));
+            at = if met.len() * rows::ENTRY <= entries.len() { row(entry[2]) } else { None };
+        }
+        met
+    };
+    buckets.iter().map(|&first| chain(first)).collect()
+}
+
+/// The published lists in the tables that are lent, zeros behind them; after a refusal zeros alone.
+pub fn rust(i: &DeriveInput) -> DeriveAnswer {
+    let status = i.status();
+    let n = if status == DONE { i.n } else { 0 };
+    let bones: Vec<Bone> = i.bones.chunks_exact(rows::BONE).take(n).map(rows::bone).collect();
+    let (count, lists, chains) = match i.call {
+        _ if status != DONE => (0, Vec::new(), Vec::new()),
+        Tags => {
+            let chains = build_bone_tags(&bones);
+            let (buckets, entries) = rows::chains(&chains, n);
+            (chains.len(), vec![buckets, entries], chains)
+        }
+        Indices => {
+            let (parents, children) = build_indices(&bones);
+            let widened = |l: Vec<i16>| l.into_iter().map(|v| v as u16 as u32).collect::<Vec<u32>>();
+            (children.len(), vec![widened(parents), widened(children)], Vec::new())
+        }
+        Matrices => {
+            let (local, inverse) = build_transformations(&bones);
+            let words = |l: Vec<Matrix>| l.iter().flat_map(settle_nan).collect::<Vec<u32>>();
+            (0, vec![words(inverse), words(local)], Vec::new())
+        }
+    };
+    let lists = lists.into_iter().chain(std::iter::repeat(Vec::new()));
+    let laid = |(mut list, length): (Vec<u32>, usize)| {
+        assert!(list.len() <= length, "a list has more rows than 01 sizes its table for");
+        list.resize(length, 0);
+        list
+    };
+    DeriveAnswer { status, count, tables: lists.zip(i.lengths()).map(laid).collect(), chains, intact: true }
+}

@@ -1,0 +1,177 @@
+//! Which joints are compared.
+
+use super::read::{self, ReadInput};
+use super::write::{self, WriteInput};
+use crate::difference::{compare, Difference, Input, Place};
+use crate::extent::Extent;
+use crate::share::share;
+use crate::tally::{status, Tally};
+use cases::joints::{damaged, good, limits};
+use cases::limits::{rotation_limit, translation_limit};
+use cases::records::joints as j;
+use cases::{rows, units, Rng, Section};
+use link::Joints;
+use oracle::{fresh_rotation_limit, joints_write, GRAPHICS_BASE, SYSTEM_BASE};
+use std::path::Path;
+
+/// Compares reading, writing and the fresh limit; gives how often each status came.
+pub fn run(library: &dyn Joints, folder: &Path, seed: u64, extent: Extent, threads: u64) -> Result<Tally, Difference> {
+    let runs = Runs { library, folder, seed };
+    let mut tally = Tally::default();
+    runs.fresh(&mut tally)?;
+    runs.counts(&mut tally)?;
+    if extent > Extent::Test {
+        runs.greatest(&mut tally)?;
+    }
+    let with = |seed: u64| Runs { seed, ..runs };
+    let cut = extent.of([3, 20, 400]);
+    tally.merge(&share(seed, cut, threads, |tally, seed| with(seed).truncations(tally))?);
+    let sections = extent.of([400, 50_000, 1_000_000]);
+    tally.merge(&share(seed, sections, threads, |tally, seed| with(seed).random(tally))?);
+    Ok(tally)
+}
+
+/// The one input of a call without any.
+#[derive(Clone)]
+struct Nothing;
+
+impl Input for Nothing {
+    fn smaller(&self) -> Vec<Self> {
+        Vec::new()
+    }
+
+    fn text(&self) -> String {
+        String::new()
+    }
+}
+
+struct Runs<'a> {
+    library: &'a dyn Joints,
+    folder: &'a Path,
+    seed: u64,
+}
+
+impl Runs<'_> {
+    fn place<'a>(&'a self, name: &'a str) -> Place<'a> {
+        Place { folder: self.folder, name, seed: self.seed }
+    }
+
+    fn read(&self, tally: &mut Tally, input: &ReadInput) -> Result<(), Difference> {
+        tally.count("joints read", status(read::rust(input).status));
+        compare(&self.place("joints_read"), input, |i| read::ours(self.library, i), read::rust)
+    }
+
+    fn write(&self, tally: &mut Tally, input: &WriteInput) -> Result<(), Difference> {
+        tally.count("joints write", status(write::rust(input).status));
+        compare(&self.place("joints_write"), input, |i| write::ours(self.library, i), write::rust)
+    }
+
+    fn fresh(&self, tally: &mut Tally) -> Result<(), Difference> {
+        let ours = |_: &Nothing| {
+            let mut words = [u32::MAX; 48];
+            self.library.fresh_rotation_limit(&mut words);
+            words
+        };
+        tally.count("fresh limit", "done");
+        compare(&self.place("fresh_limit"), &Nothing, ours, |_| fresh_rotation_limit().other)
+    }
+
+    /// Counts of 0 and 65,535 at pointers that are 0, good, the end, past it and in neither half.
+    fn counts(&self, tally: &mut Tally) -> Result<(), Difference> {
+        let behind = SYSTEM_BASE + j::SIZE as u64;
+        let pointers = [0, behind, behind + 256, behind + 257, 1, GRAPHICS_BASE, GRAPHICS_BASE + 5, 0x7000_0000, u64::MAX];
+        for rotations in pointers {
+            for translations in pointers {
+                for (r, t) in [(0, 0), (1, 1), (0, 65_535), (65_535, 0), (65_535, 65_535)] {
+                    let system = [units::joints(rotations, translations, r, t), vec![7; 256]].concat();
+                    let section = Section { graphics: vec![9; 5], ..Section::written(system) };
+                    for (rotation, translation) in [(rows::ROTATION, rows::TRANSLATION), (0, 0)] {
+                        self.read(tally, &ReadInput { section: section.clone(), rotation, translation, dirt: self.seed })?;
+                    }
+                }
+            }
+        }
+        Ok(())
+    }
+
+    /// 65,535 limits of each kind, written and read; 65,536 of either are 6.
+    fn greatest(&self, tally: &mut Tally) -> Result<(), Difference> {
+        const MOST: usize = 65_535;
+        let mut rng = Rng::new(self.seed);
+        let rotations: Vec<_> = (0..=MOST).map(|_| rotation_limit(&mut rng)).collect();
+        let translations: Vec<_> = (0..=MOST).map(|_| translation_limit(&mut rng)).collect();
+        let rotation: Vec<u32> = rotations.iter().flat_map(rows::rotation).collect();
+        let translation: Vec<u32> = translations.iter().flat_map(rows::translation).collect();
+        for (r, t) in [(MOST, MOST), (MOST + 1, 0), (0, MOST + 1), (MOST + 1, MOST + 1)] {
+            let out = j::SIZE + j::ROTATION_LIMIT * r + j::TRANSLATION_LIMIT * t;
+            let (rotation, translation) = (rotation.clone(), translation.clone());
+            self.write(tally, &WriteInput { rotation, r, translation, t, out, dirt: self.seed })?;
+        }
+        let section = Section::written(joints_write(&rotations[..MOST], &translations[..MOST]).section());
+        let (rotation, translation) = (rows::ROTATION * MOST, rows::TRANSLATION * MOST);
+        for (rotation, translation) in [(rotation, translation), (rotation - 1, translation), (rotation, translation - 1)] {
+            self.read(tally, &ReadInput { section: section.clone(), rotation, translation, dirt: self.seed })?;
+        }
+        Ok(())
+    }
+
+    /// Every truncation of either half of a good section.
+    fn truncations(&self, tally: &mut Tally) -> Result<(), Difference> {
+        let whole = good(&mut Rng::new(self.seed));
+        let system = (0..=whole.system.len()).map(|n| Section { system: whole.system[..n].to_vec(), ..whole.clone() });
+        let graphics = (0..whole.graphics.len()).map(|n| Section { graphics: whole.graphics[..n].to_vec(), ..whole.clone() });
+        for section in system.chain(graphics) {
+            let (rotation, translation) = (rows::ROTATION * 3, rows::TRANSLATION * 3);
+            self.read(tally, &ReadInput { section, rotation, translation, dirt: self.seed })?;
+        }
+        Ok(())
+    }
+
+    /// A good section, a damaged one and two lists to write.
+    fn random(&self, tally: &mut Tally) -> Result<(), Difference> {
+        let mut rng = Rng::new(self.seed);
+        for section in [good(&mut rng), damaged(self.seed).section] {
+            let rows = |field: usize| (section.count(field) as usize).min(4);
+            let rotation = words(&mut rng, rows::ROTATION * rows(j::ROTATION_COUNT), rows::ROTATION);
+            let translation = words(&mut rng, rows::TRANSLATION * rows(j::TRANSLATION_COUNT), rows::TRANSLATION);
+            self.read(tally, &ReadInput { section, rotation, translation, dirt: rng.next() })?;
+        }
+        self.write(tally, &written(&mut rng))
+    }
+}
+
+/// So many words, or some more, or too few; `width` is a row's.
+fn words(rng: &mut Rng, exact: usize, width: usize) -> usize {
+    match rng.below(8) {
+        0 => exact.saturating_sub(1),
+        1 => exact.saturating_sub(width),
+        2 => exact + 1 + rng.below(width),
+        3 => rng.below(2 * width),
+        _ => exact,
+    }
+}
+
+/// Two lists in tables, now and then more asked for than there are or a buffer that is too short.
+fn written(rng: &mut Rng) -> WriteInput {
+    let (rotations, translations) = limits(rng);
+    let mut rotation: Vec<u32> = rotations.iter().flat_map(rows::rotation).collect();
+    let mut translation: Vec<u32> = translations.iter().flat_map(rows::translation).collect();
+    let (mut r, mut t) = (rotations.len(), translations.len());
+    match rng.below(8) {
+        0 => rotation.resize(words(rng, rotation.len(), rows::ROTATION), rng.next() as u32),
+        1 => translation.resize(words(rng, translation.len(), rows::TRANSLATION), rng.next() as u32),
+        2 => r = rng.below(r + 2),
+        3 => t = rng.below(t + 2),
+        4 if rng.one_in(4) => r = rng.pick(&[65_535, 65_536, 1 << 32, 1 << 60, usize::MAX]),
+        4 if rng.one_in(4) => t = rng.pick(&[65_535, 65_536, 1 << 32, 1 << 60, usize::MAX]),
+        _ => {}
+    }
+    let length = j::SIZE + j::ROTATION_LIMIT * r.min(4) + j::TRANSLATION_LIMIT * t.min(4);
+    let out = match rng.below(8) {
+        0 => length - 1,
+        1 => rng.below(length),
+        2 => length + rng.below(100),
+        _ => length,
+    };
+    WriteInput { rotation, r, translation, t, out, dirt: rng.next() }
+}

@@ -1,0 +1,67 @@
+//! Published values made ready beforehand, so that a published call can be timed alone.
+
+use crate::bone::{published, Bone};
+use crate::joints::{placed_limits, RotationLimit, TranslationLimit};
+use crate::write::write_all;
+use rage_formats::blocks::skeleton::{self, Joints};
+use rage_formats::blocks::{ydr, BlockId, Graph, Reader};
+use rage_formats::math::Mat4;
+
+/// Bones as the published calls take them.
+pub struct PreparedBones(Vec<skeleton::Bone>);
+
+impl PreparedBones {
+    pub fn new(bones: &[Bone]) -> Self {
+        PreparedBones(bones.iter().map(|b| published(b, None)).collect())
+    }
+
+    /// The graph that holds the chains.
+    pub fn build_bone_tags(&self) -> Graph {
+        let mut g = Graph::new();
+        skeleton::build_bone_tags(&mut g, &self.0);
+        g
+    }
+
+    pub fn build_indices(&self) -> (Vec<i16>, Vec<i16>) {
+        skeleton::build_indices(&self.0)
+    }
+
+    pub fn build_transformations(&self) -> (Vec<Mat4>, Vec<Mat4>) {
+        skeleton::build_transformations(&self.0)
+    }
+}
+
+/// A reader of a joints section; each reading wants a new one, for its pool is not empty afterwards.
+pub struct PreparedSection(Reader);
+
+impl PreparedSection {
+    pub fn new(system: &[u8]) -> Self {
+        PreparedSection(ydr::reader(system, &[]))
+    }
+
+    /// The graph that holds the joints at `root`, and the reader.
+    pub fn joints_read(mut self, root: u64) -> (Graph, Self) {
+        let mut g = Graph::new();
+        Joints::read(&mut self.0, &mut g, root).expect("a good section");
+        (g, self)
+    }
+}
+
+/// Limits in blocks that are placed already.
+pub struct PreparedLimits {
+    g: Graph,
+    parts: Vec<Vec<BlockId>>,
+    end: usize,
+}
+
+impl PreparedLimits {
+    pub fn new(rotations: &[RotationLimit], translations: &[TranslationLimit]) -> Self {
+        let (g, parts, end) = placed_limits(rotations, translations);
+        PreparedLimits { g, parts, end }
+    }
+
+    /// The section, written into a buffer of its own.
+    pub fn joints_write(&self) -> Vec<u8> {
+        write_all(&self.g, &self.parts, self.end).section()
+    }
+}

@@ -1,0 +1,4 @@
+pub mod Tagging
+pub mod Index
+pub mod Pile
+pub mod Indexing

@@ -1,0 +1,6 @@
+pub mod PlainWords
+pub mod MatrixRoom
+pub mod Walking
+pub mod MatrixWords
+pub mod Placing
+pub mod MatrixTables

@@ -1,0 +1,52 @@
+-- Laws of a bone's two matrices: they are what the calls give, put together, and have sixteen words. Assumes nothing.
+use Prim.Native.Nat.{ℕ, zero, suc}
+use mathlib.Core.Path.{_≡_, refl, ap}
+use mathlib.Core.List.{List, [], _∷_, map}
+use lib.ListN.{length, set, length-set, length-map}
+use Rattle.math.specs.F32.{_⊗_}
+use Rattle.math.specs.Matrix.{fromQuatPos, scaleVector, setDiagonal, setColumn4, matrixWords}
+use Rattle.math.specs.Inverse.{inverse}
+use Rattle.math.specs.declared.Vec3.{Vec3}
+use Rattle.math.specs.declared.Mat4.{Mat4}
+use Rattle.math.proofs.Sizes.{length-from-quat-pos, length-inverse}
+use Rattle.format.specs.Section.{Place}
+use Rattle.format.specs.Bone.{Bone}
+use Rattle.format.specs.Matrices.{floats3, poseOf, walk, localOf, inverseOf}
+use Rattle.bones.specs.declared.Words4.{Words4}
+use Rattle.bones.specs.Value.{ourWords4}
+use Rattle.matrices.specs.declared.matrices.Joint.{Joint}
+use Rattle.matrices.specs.declared.matrices.Pose.{Pose}
+use Rattle.matrices.specs.Transforming.{jointOf, meantPose}
+
+module _ {A B : Type 0} (f : A → B) where
+  map-set : (l : List A) (i : ℕ) (a : A) → map f (set l i a) ≡ set (map f l) i (f a)
+  map-set [] i a = refl
+  map-set (x ∷ l) zero a = refl
+  map-set (x ∷ l) (suc i) a = ap (λ (m : List B). f x ∷ m) (map-set l i a)
+
+-- ---- the local matrix
+
+pub local-made :
+    (b : Bone Place) (j : Joint) (m : Mat4) (d s : Vec3) (k : Words4) (m′ : Mat4) (w : List ℕ) → j ≡ jointOf b
+    → m ≡ fromQuatPos (j .rotation) (j .translation) → d ≡ scaleVector m → s ≡ floats3 (b .scale)
+    → k ≡ ourWords4 (b .kept) → m′ .0 ≡ setDiagonal (d .x ⊗ s .x) (d .y ⊗ s .y) (d .z ⊗ s .z) (m .0) → w ≡ matrixWords m′
+    → setColumn4 (k .x) (k .y) (k .z) (k .w) w ≡ localOf b
+unfolding localOf
+local-made b j m d s k m′ w ej em ed es ek em′ ew = simp (ew, em′, map-set, ek, es, ed, em, ej)
+
+pub length-local : (b : Bone Place) → length (localOf b) ≡ 16
+unfolding localOf
+length-local b = simp (length-set, length-map) (length-from-quat-pos _ _)
+
+-- ---- the inverse matrix
+
+pub inverse-made :
+    (bones : List (Bone Place)) (n : ℕ) (b : Bone Place) (s : Pose) (m i : Mat4) (w : List ℕ) → length bones ≡ n
+    → meantPose s ≡ walk bones n (b .parent) (poseOf b) → m ≡ fromQuatPos (s .rotation) (s .position) → i ≡ inverse m
+    → w ≡ matrixWords i → setColumn4 0 0 0 0 w ≡ inverseOf bones b
+unfolding inverseOf
+inverse-made bones n b s m i w el es em ei ew = simp (ew, ei, em, el, ← es)
+
+pub length-inverse-of : (bones : List (Bone Place)) (b : Bone Place) → length (inverseOf bones b) ≡ 16
+unfolding inverseOf
+length-inverse-of bones b = simp (length-set, length-map) (length-inverse _)
