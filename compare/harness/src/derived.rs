@@ -91,11 +91,15 @@ impl Input for DeriveInput {
         let rows = self.bones.len() / rows::BONE;
         let mut cuts = vec![rows / 2..rows, 0..rows / 2];
         cuts.extend((0..if rows <= FEW { rows } else { 0 }).map(|row| row..row + 1));
-        let mut out: Vec<Self> = cuts.into_iter().filter(|c| !c.is_empty()).map(|c| self.without(c)).collect();
-        for table in (0..3).filter(|&t| self.room[t] != 0) {
-            let mut room = self.room;
-            room[table] = 0;
-            out.push(DeriveInput { room, ..self.clone() });
+        let mut out = vec![DeriveInput { bones: Vec::new(), ..self.clone() }; (rows > 0) as usize];
+        out.extend(cuts.into_iter().filter(|c| !c.is_empty()).map(|c| self.without(c)));
+        for (table, length) in self.lengths().into_iter().enumerate().filter(|&(_, length)| length > 0) {
+            let steps = [(self.room[table] > 0).then_some(self.room[table]), Some(length.div_ceil(2) as isize), Some(1)];
+            for less in steps.into_iter().flatten() {
+                let mut room = self.room;
+                room[table] -= less;
+                out.push(DeriveInput { room, ..self.clone() });
+            }
         }
         let words = if rows <= FEW { self.bones.len() } else { 0 };
         for at in (0..words).filter(|&at| self.bones[at] != 0) {

@@ -1,22 +1,30 @@
 //! Runs the published Rust over generated cases, and our library against it.
 
 mod damaged;
+mod derived;
 mod difference;
+mod extent;
 mod fields;
+mod hash;
+mod joints;
+mod lent;
 mod model;
 mod options;
 mod readings;
 mod rigs;
 mod self_test;
+mod share;
 mod store;
 mod tally;
 mod text;
 
+use extent::Extent;
 use options::Options;
 use std::fmt::Display;
 use std::path::Path;
 use std::process::ExitCode;
 use std::time::Instant;
+use tally::Tally;
 
 fn main() -> ExitCode {
     let result = Options::parse(std::env::args().skip(1)).and_then(|o| run(&o));
@@ -41,9 +49,7 @@ fn run(o: &Options) -> Result<(), String> {
     if o.oracle_only {
         println!("our library: left out (--oracle-only)");
     } else {
-        let library = link::fields().ok_or("the harness was built without librig.a; start it with compare/run")?;
-        let compared = || fields::run(library, failures, o.seed, 300_000 * times as usize).map_err(|d| d.to_string());
-        stage("fields: our library against the Rust", "calls equal", compared)?;
+        ours(o, failures)?;
     }
     stage("readings", "shown", readings::run)?;
     stage("deriving", "rigs", || rigs::derive(o.seed, 20_000 * times))?;
@@ -54,6 +60,20 @@ fn run(o: &Options) -> Result<(), String> {
     stage("truncations", "", || damaged::truncations(o.seed, 40 * times).map(|t| format!("\n{t}")))?;
     stage("damaged sections", "", || damaged::run(o.seed, o.count, o.threads).map(|t| format!("\n{t}")))?;
     println!("compare: passed");
+    Ok(())
+}
+
+/// Our library against the Rust.
+fn ours(o: &Options, failures: &Path) -> Result<(), String> {
+    let library = link::library().ok_or("the harness was built without librig.a; start it with compare/run")?;
+    let (extent, calls) = if o.long { (Extent::Long, 6_000_000) } else { (Extent::Short, 300_000) };
+    let listed = |t: Tally| format!("\n{t}");
+    println!("our library against the Rust, equal:");
+    stage("fields", "calls", || fields::run(library, failures, o.seed, calls).map_err(|d| d.to_string()))?;
+    stage("hash", "names", || hash::run(library, failures, o.seed, extent).map_err(|d| d.to_string()))?;
+    stage("deriving", "", || derived::run(library, failures, o.seed, extent, o.threads).map(listed).map_err(|d| d.to_string()))?;
+    stage("joints", "", || joints::run(library, failures, o.seed, extent, o.threads).map(listed).map_err(|d| d.to_string()))?;
+    println!("the Rust alone:");
     Ok(())
 }
 

@@ -1,89 +1,86 @@
 //! The comparison's own test: faults put in here, not in the library, must be found, shrunk and stored.
 
+mod derive;
+mod fields;
+mod joints;
+
 use crate::difference::{compare, Difference, Place};
-use crate::fields;
+use crate::extent::Extent::Test;
+use crate::{derived, hash, lent};
 use cases::{good, Rng, Section};
-use link::Fields;
+use fields::{Fault, Faulty};
 use oracle::Answer;
 use std::path::Path;
-
-/// The published fields with one fault.
-struct Faulty(Fault);
-
-#[derive(Clone, Copy, PartialEq)]
-enum Fault {
-    None,
-    /// One bit of a 32-bit read, only at position 3 of at least 9 bytes.
-    ReadBit,
-    /// A put that does not fit stores a byte all the same.
-    PutAnyway,
-    /// A put stores its field and one byte more.
-    PutMore,
-}
-
-impl Faulty {
-    fn put(&self, d: &mut [u8], after: Option<Vec<u8>>, end: usize) -> bool {
-        match &after {
-            Some(bytes) => d.copy_from_slice(bytes),
-            None if self.0 == Fault::PutAnyway => d.iter_mut().take(1).for_each(|b| *b ^= 1),
-            None => {}
-        }
-        if let (Fault::PutMore, true, Some(next)) = (self.0, after.is_some(), d.get_mut(end)) {
-            *next ^= 1;
-        }
-        after.is_some()
-    }
-}
-
-impl Fields for Faulty {
-    fn u16_at(&self, s: &[u8], at: usize) -> u16 {
-        oracle::u16_at(s, at)
-    }
-    fn u32_at(&self, s: &[u8], at: usize) -> u32 {
-        oracle::u32_at(s, at) ^ (self.0 == Fault::ReadBit && at == 3 && s.len() >= 9) as u32
-    }
-    fn u64_at(&self, s: &[u8], at: usize) -> u64 {
-        oracle::u64_at(s, at)
-    }
-    fn put16(&self, d: &mut [u8], at: usize, v: u16) -> bool {
-        self.put(d, oracle::put_u16(d, at, v), at.wrapping_add(2))
-    }
-    fn put32(&self, d: &mut [u8], at: usize, v: u32) -> bool {
-        self.put(d, oracle::put_u32(d, at, v), at.wrapping_add(4))
-    }
-    fn put64(&self, d: &mut [u8], at: usize, v: u64) -> bool {
-        self.put(d, oracle::put_u64(d, at, v), at.wrapping_add(8))
-    }
-}
 
 /// Runs every fault; an error where one is not found. Gives the number of faults found.
 pub fn run(folder: &Path) -> Result<usize, String> {
     let folder = &folder.join("self_test");
-    if let Err(d) = fields::run(&Faulty(Fault::None), folder, 1, 1_000) {
-        return Err(format!("self-test: a difference where there is no fault: {d}"));
+    if !lent::changes_are_noticed() {
+        return Err("self-test: a touched guard was not found".into());
     }
+    Ok(1 + single_fields(folder)? + reading(folder)? + deriving(folder)? + hashing(folder)? + limits(folder)?)
+}
+
+fn single_fields(folder: &Path) -> Result<usize, String> {
+    let run = |fault| crate::fields::run(&Faulty(fault), folder, 1, 1_000);
+    none(run(Fault::None))?;
     for (fault, name) in
         [(Fault::ReadBit, "a wrong bit"), (Fault::PutAnyway, "a put out of bounds"), (Fault::PutMore, "a byte too many")]
     {
-        let found = fields::run(&Faulty(fault), folder, 1, 1_000);
-        let d = stored(found.map(|_| ()), name)?;
+        let d = stored(run(fault), name)?;
         if fault == Fault::ReadBit && !d.text.contains("bytes 000000000000000000\nat 3\nvalue 0\n") {
             return Err(format!("self-test: {name} was not shrunk to nine zero bytes:\n{}", d.text));
         }
     }
+    Ok(3)
+}
+
+fn reading(folder: &Path) -> Result<usize, String> {
     let d = stored(wrong_answer(folder), "a wrong bone in a reading")?;
     // what is left is a skeleton and one bone; more than 400 bytes were hardly shrunk
     let system = d.text.lines().find_map(|l| l.strip_prefix("system ")).map_or(0, |hex| hex.len() / 2);
     if system > 400 {
         return Err(format!("self-test: the section was shrunk to {system} bytes only"));
     }
-    Ok(4)
+    Ok(1)
+}
+
+fn deriving(folder: &Path) -> Result<usize, String> {
+    none(derived::run(&derive::Faulty(None), folder, 1, Test, 1))?;
+    for fault in derive::FAULTS {
+        let d = stored(derived::run(&derive::Faulty(Some(fault)), folder, 1, Test, 1), &format!("{fault:?}"))?;
+        // each fault shows in at most 17 bones
+        let bones = d.text.lines().filter(|l| l.starts_with("bone")).count();
+        if bones > 17 {
+            return Err(format!("self-test: {fault:?} was shrunk to {bones} bones only"));
+        }
+    }
+    Ok(derive::FAULTS.len())
+}
+
+fn hashing(folder: &Path) -> Result<usize, String> {
+    none(hash::run(&derive::Faulty(None), folder, 1, Test))?;
+    stored(hash::run(&derive::Faulty(Some(derive::Fault::HashByte)), folder, 1, Test), "a wrong hash")?;
+    Ok(1)
+}
+
+fn limits(folder: &Path) -> Result<usize, String> {
+    none(crate::joints::run(&joints::Faulty(None), folder, 1, Test, 1))?;
+    for fault in joints::FAULTS {
+        stored(crate::joints::run(&joints::Faulty(Some(fault)), folder, 1, Test, 1), &format!("{fault:?}"))?;
+    }
+    Ok(joints::FAULTS.len())
+}
+
+/// Where there is no fault, no difference may be found.
+fn none<T>(result: Result<T, Difference>) -> Result<(), String> {
+    result.map(|_| ()).map_err(|d| format!("self-test: a difference where there is no fault: {d}"))
 }
 
 /// The difference, which must have been found and stored.
-fn stored(result: Result<(), Difference>, name: &str) -> Result<Difference, String> {
+fn stored<T>(result: Result<T, Difference>, name: &str) -> Result<Difference, String> {
     match result {
-        Ok(()) => Err(format!("self-test: {name} was not found")),
+        Ok(_) => Err(format!("self-test: {name} was not found")),
         Err(d) if !d.file.is_file() => Err(format!("self-test: {name} was not stored")),
         Err(d) => Ok(d),
     }

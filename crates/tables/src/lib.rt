@@ -1,9 +1,11 @@
-// Lent tables (document 01, "Who can cause a refusal": every refusal leaves them zero): whether they have room, and clearing them.
+// Lent tables and buffers (document 01, "Who can cause a refusal"): whether tables have room, clearing them, and the written front of a
+// buffer.
 ghost use mathlib.Core.Path.{_≡_};
 ghost use mathlib.Core.List.{_++_};
 ghost use Prim.Native.Nat.{_-_};
 ghost use lib.ListN.{length, take};
 ghost use Rattle.format.specs.Rows.{cleared};
+ghost use Rattle.tables.specs.Front.{frontOf};
 use format::Refusal;
 
 // Whether lent tables have room.
@@ -47,4 +49,14 @@ pub fn clear64(t: &mut [u64])
         t[i] = 0;
         i += 1;
     }
+}
+
+// The first n bytes of the caller's buffer, as a part of it; the empty part if n is above its length.
+pub fn front<'a>(out: &'a mut [u8], n: usize) -> &'a mut [u8]
+    ensures part { λ r. ⌜ now r ≡ frontOf n (now (out .entry)) ⌝ }
+{
+    if n <= out.len() {
+        return &mut out[..n];
+    }
+    &mut out[..0]
 }

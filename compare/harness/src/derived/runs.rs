@@ -22,6 +22,7 @@ pub fn run(library: &dyn Derive, folder: &Path, seed: u64, extent: Extent, threa
     runs.buckets(&mut tally)?;
     runs.refusals(&mut tally)?;
     runs.room(&mut tally, extent)?;
+    runs.trial(&mut tally)?;
     if extent > Extent::Test {
         runs.sizes(&mut tally)?;
     }
@@ -119,6 +120,32 @@ impl Runs<'_> {
             }
         }
         Ok(())
+    }
+
+    /// 01's trial rigs; a bone that is its own child; a circle and a bone under it; a pending list of more than
+    /// 4 * n bones.
+    fn trial(&self, tally: &mut Tally) -> Result<(), Difference> {
+        let by_position = |parents: &[i16]| (0..).zip(parents.iter().copied()).collect::<Vec<(i16, i16)>>();
+        let rigs = [
+            by_position(&[-1, 0, 0]),
+            by_position(&[-1, 0, 0, 0, 0, 0, 1]),
+            by_position(&[1, 2, 0, 0]),
+            by_position(&[-7, 0, i16::MIN, 2, 32_767]),
+            vec![(-1, -1)],
+            vec![(-3, -3)],
+            vec![(-1, -1); 9],
+            vec![(5, -1), (9, 5)],
+            [vec![(0, -1); 8], vec![(20, 0); 9]].concat(),
+        ];
+        for rig in rigs {
+            let bone = |(i, &(index, parent))| Bone { index, ..plain_bone(i, parent) };
+            let bones: Vec<Bone> = rig.iter().enumerate().map(bone).collect();
+            CALLS.iter().try_for_each(|&call| self.exact(tally, call, &bones))?;
+        }
+        let multiples = [0, 11, 22].map(|tag| Bone { tag, ..plain_bone(0, -1) });
+        self.exact(tally, Tags, &multiples)?;
+        let singular = Bone { rotation: [0x3F00_0000, 0x3F00_0000, 0, 0], ..plain_bone(0, -1) };
+        self.exact(tally, Matrices, &[singular])
     }
 
     /// Rigs of the counts at which the ladder or the format turns. Above 2,000 bones no index comes twice: the

@@ -1,0 +1,51 @@
+//! Joints and the hash.
+
+use crate::timing::{timed, Row, Table};
+use cases::limits::{rotation_limit, translation_limit};
+use cases::{rows, Rng};
+use link::{Library, DONE};
+use oracle::{joints_write, rage_joaat, PreparedLimits, PreparedSection, RotationLimit, TranslationLimit, SYSTEM_BASE};
+use std::hint::black_box;
+
+const SEED: u64 = 1;
+
+/// Reading and writing of 100 limits, 50 of each kind.
+pub fn joints(table: &Table, library: &dyn Library) {
+    const EACH: usize = 50;
+    let mut rng = Rng::new(SEED);
+    let rotations: Vec<RotationLimit> = (0..EACH).map(|_| rotation_limit(&mut rng)).collect();
+    let translations: Vec<TranslationLimit> = (0..EACH).map(|_| translation_limit(&mut rng)).collect();
+    let mut rotation: Vec<u32> = rotations.iter().flat_map(rows::rotation).collect();
+    let mut translation: Vec<u32> = translations.iter().flat_map(rows::translation).collect();
+    let section = joints_write(&rotations, &translations).section();
+    let row = |call| Row { call, input: "50 rotation and 50 translation limits", units: 2 * EACH, unit: "a limit" };
+    let (mut out, mut count) = (vec![1; section.len()], 0);
+    let prepared = PreparedLimits::new(&rotations, &translations);
+    let write = || {
+        timed(|| assert_eq!(library.joints_write(&rotation, EACH, &translation, EACH, &mut out, &mut count), DONE))
+    };
+    table.both(&row("joints write"), write, || timed(|| prepared.joints_write()));
+    let mut fields = [0; 7];
+    let read = || {
+        let (r, t) = (&mut rotation, &mut translation);
+        timed(|| assert_eq!(library.joints_read(&section, &[], SYSTEM_BASE, r, t, &mut fields), DONE))
+    };
+    let rust = || {
+        let prepared = PreparedSection::new(&section);
+        timed(|| prepared.joints_read(SYSTEM_BASE))
+    };
+    table.both(&row("joints read"), read, rust);
+}
+
+/// 1,000 names of 4 to 20 letters, and one long string.
+pub fn hash(table: &Table, library: &dyn Library) {
+    let mut rng = Rng::new(SEED);
+    let mut letters = |n: usize| (0..n).map(|_| (b'a' + rng.below(26) as u8) as char).collect::<String>();
+    let names: Vec<String> = (0..1_000).map(|i| letters(4 + i % 17)).collect();
+    let long = vec![letters(65_536)];
+    for (input, names) in [("1,000 names of 4 to 20 bytes", names), ("one string of 65,536 bytes", long)] {
+        let row = Row { call: "hash", input, units: names.iter().map(String::len).sum(), unit: "a byte" };
+        let ours = || timed(|| names.iter().for_each(|n| drop(black_box(library.rage_joaat(n.as_bytes())))));
+        table.both(&row, ours, || timed(|| names.iter().for_each(|n| drop(black_box(rage_joaat(n))))));
+    }
+}

@@ -1,0 +1,11 @@
+pub mod WordLists
+pub mod Runs
+pub mod Row
+pub mod RowLists
+pub mod RowLoops
+pub mod BothKinds
+pub mod Laying
+pub mod Finding
+pub mod Lists
+pub mod Codecs
+pub mod Back

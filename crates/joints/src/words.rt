@@ -1,0 +1,37 @@
+// Runs of 32-bit words, one loop each: from bytes into a lent table and back, and zeros (document 01, "Joints and names").
+ghost use mathlib.Core.Path.{_≡_};
+ghost use Prim.Native.Nat.{_+_, _*_, _≤_};
+ghost use lib.ListN.{length, take, drop};
+ghost use lib.Seq.{sets};
+ghost use Rattle.format.specs.Field.{words, wordBytes};
+ghost use Rattle.format.specs.Rows.{cleared};
+
+pub(crate) fn clear(t: &mut [u32])
+    ensures { λ _. ⌜ now (t .exit) ≡ cleared (length (now (t .entry))) ⌝ }
+{
+    tables::clear32(t);
+}
+
+// The n words that stand in `s` from `from` on, put into the table from `to` on.
+pub(crate) fn load(s: &[u8], from: usize, n: usize, t: &mut [u32], to: usize)
+    requires { ⌜ (from + 4 * n ≤ length (now s)) × (to + n ≤ length (now t)) ⌝ }
+    ensures { λ _. ⌜ now (t .exit) ≡ sets (now (t .entry)) to (words 4 n (drop from (now (s .entry)))) ⌝ }
+{
+    let mut i = 0;
+    while i < n {
+        t[to + i] = fields::u32_at(s, from + 4 * i);
+        i += 1;
+    }
+}
+
+// The n words of the table from `from` on, put into the bytes from `at` on.
+pub(crate) fn store(t: &[u32], from: usize, n: usize, d: &mut [u8], at: usize)
+    requires { ⌜ (from + n ≤ length (now t)) × (at + 4 * n ≤ length (now d)) ⌝ }
+    ensures { λ _. ⌜ now (d .exit) ≡ sets (now (d .entry)) at (wordBytes 4 (take n (drop from (now (t .entry))))) ⌝ }
+{
+    let mut i = 0;
+    while i < n {
+        fields::put32(d, at + 4 * i, t[from + i]);
+        i += 1;
+    }
+}
