@@ -4,7 +4,7 @@ use crate::timing::{timed, Row, Table};
 use cases::rigs::{chain, tree};
 use cases::trial::plain_bone;
 use cases::{rows, Rng};
-use link::{Derive, Library, DONE};
+use link::{Derive, DONE};
 use oracle::{num_hash_buckets, Bone, PreparedBones};
 use std::time::Duration;
 
@@ -15,7 +15,7 @@ const COUNTS: [usize; 4] = [100, 1_000, 10_000, 65_535];
 const LONGEST_CHAIN: usize = 10_000;
 
 /// Tags, indices and matrices of random trees and chains.
-pub fn rigs(table: &Table, library: &dyn Library) {
+pub fn rigs(table: &Table, library: &dyn Derive) {
     for n in COUNTS {
         for (shape, drawn) in [("random tree", tree as fn(&mut Rng, usize) -> Vec<Bone>), ("chain", chain)] {
             let bones = tame(&mut Rng::new(SEED), drawn, n);
@@ -36,7 +36,7 @@ pub fn rigs(table: &Table, library: &dyn Library) {
 }
 
 /// 65,535 bones of one index, one parent and one tag, ours alone; an error where a call takes a second.
-pub fn one_index(table: &Table, library: &dyn Library) -> Result<(), String> {
+pub fn one_index(table: &Table, library: &dyn Derive) -> Result<(), String> {
     let n = 65_535;
     let mut lent = Lent::new(&vec![Bone { index: -1, ..plain_bone(0, -1) }; n]);
     let row = |call| Row { call, input: "one index and parent (-1), 65,535 bones", units: n, unit: "a bone" };

@@ -3,14 +3,13 @@
 use crate::timing::{timed, Row, Table};
 use cases::limits::{rotation_limit, translation_limit};
 use cases::{rows, Rng};
-use link::{Library, DONE};
+use link::{Hash, Joints, DONE};
 use oracle::{joints_write, rage_joaat, PreparedLimits, PreparedSection, RotationLimit, TranslationLimit, SYSTEM_BASE};
-use std::hint::black_box;
 
 const SEED: u64 = 1;
 
 /// Reading and writing of 100 limits, 50 of each kind.
-pub fn joints(table: &Table, library: &dyn Library) {
+pub fn joints(table: &Table, library: &dyn Joints) {
     const EACH: usize = 50;
     let mut rng = Rng::new(SEED);
     let rotations: Vec<RotationLimit> = (0..EACH).map(|_| rotation_limit(&mut rng)).collect();
@@ -21,9 +20,7 @@ pub fn joints(table: &Table, library: &dyn Library) {
     let row = |call| Row { call, input: "50 rotation and 50 translation limits", units: 2 * EACH, unit: "a limit" };
     let (mut out, mut count) = (vec![1; section.len()], 0);
     let prepared = PreparedLimits::new(&rotations, &translations);
-    let write = || {
-        timed(|| assert_eq!(library.joints_write(&rotation, EACH, &translation, EACH, &mut out, &mut count), DONE))
-    };
+    let write = || timed(|| assert_eq!(library.joints_write(&rotation, EACH, &translation, EACH, &mut out, &mut count), DONE));
     table.both(&row("joints write"), write, || timed(|| prepared.joints_write()));
     let mut fields = [0; 7];
     let read = || {
@@ -38,14 +35,15 @@ pub fn joints(table: &Table, library: &dyn Library) {
 }
 
 /// 1,000 names of 4 to 20 letters, and one long string.
-pub fn hash(table: &Table, library: &dyn Library) {
+pub fn hash(table: &Table, library: &dyn Hash) {
     let mut rng = Rng::new(SEED);
     let mut letters = |n: usize| (0..n).map(|_| (b'a' + rng.below(26) as u8) as char).collect::<String>();
     let names: Vec<String> = (0..1_000).map(|i| letters(4 + i % 17)).collect();
     let long = vec![letters(65_536)];
     for (input, names) in [("1,000 names of 4 to 20 bytes", names), ("one string of 65,536 bytes", long)] {
         let row = Row { call: "hash", input, units: names.iter().map(String::len).sum(), unit: "a byte" };
-        let ours = || timed(|| names.iter().for_each(|n| drop(black_box(library.rage_joaat(n.as_bytes())))));
-        table.both(&row, ours, || timed(|| names.iter().for_each(|n| drop(black_box(rage_joaat(n))))));
+        let ours = |n: &String| library.rage_joaat(n.as_bytes());
+        let all = |hash: &dyn Fn(&String) -> u32| timed(|| names.iter().fold(0, |sum, n| sum ^ hash(n)));
+        table.both(&row, || all(&ours), || all(&|n| rage_joaat(n)));
     }
 }

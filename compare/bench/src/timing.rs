@@ -33,28 +33,30 @@ pub struct Table(());
 impl Table {
     /// Prints the head.
     pub fn begin() -> Table {
-        println!("| call | input | ns for | ours | Rust | ours / Rust | calls |");
-        println!("|---|---|---|---:|---:|---:|---:|");
+        println!("| call | input | ns for | ours | Rust | ours / Rust | of the least | calls |");
+        println!("|---|---|---|---:|---:|---:|---:|---:|");
         Table(())
     }
 
     /// Times both sides and prints their row; each closure gives the time of one call.
     pub fn both(&self, row: &Row, mut ours: impl FnMut() -> Duration, mut rust: impl FnMut() -> Duration) {
         let times = repeated(|| (ours(), rust()), |&(a, b)| a + b);
-        let [a, b] = [median(times.iter().map(|t| t.0)), median(times.iter().map(|t| t.1))].map(|t| t / row.units as f64);
-        self.print(row, a, &format!("{b:.1}"), &format!("{:.2}", a / b), times.len());
+        let ours = sorted(times.iter().map(|t| t.0));
+        let rust = sorted(times.iter().map(|t| t.1));
+        let ratios = [ratio(median(&ours), median(&rust)), ratio(ours[0], rust[0])];
+        self.print(row, median(&ours), &format!("{:.1}", median(&rust) / row.units as f64), ratios, times.len());
     }
 
     /// Times our side alone and prints its row; gives the median of one call.
     pub fn alone(&self, row: &Row, ours: impl FnMut() -> Duration) -> Duration {
-        let times = repeated(ours, |&t| t);
-        let nanoseconds = median(times.iter().copied());
-        self.print(row, nanoseconds / row.units as f64, "–", "–", times.len());
-        Duration::from_nanos(nanoseconds as u64)
+        let times = sorted(repeated(ours, |&t| t).into_iter());
+        self.print(row, median(&times), "–", ["–".into(), "–".into()], times.len());
+        Duration::from_nanos(median(&times) as u64)
     }
 
-    fn print(&self, row: &Row, ours: f64, rust: &str, ratio: &str, calls: usize) {
-        println!("| {} | {} | {} | {ours:.1} | {rust} | {ratio} | {calls} |", row.call, row.input, row.unit);
+    fn print(&self, row: &Row, ours: f64, rust: &str, [ratio, of_the_least]: [String; 2], calls: usize) {
+        let ours = ours / row.units as f64;
+        println!("| {} | {} | {} | {ours:.1} | {rust} | {ratio} | {of_the_least} | {calls} |", row.call, row.input, row.unit);
     }
 }
 
@@ -68,9 +70,18 @@ fn repeated<T>(mut call: impl FnMut() -> T, time: impl Fn(&T) -> Duration) -> Ve
     times
 }
 
-/// In nanoseconds.
-fn median(times: impl Iterator<Item = Duration>) -> f64 {
-    let mut times: Vec<u128> = times.map(|t| t.as_nanos()).collect();
-    times.sort_unstable();
-    times[times.len() / 2] as f64
+/// In nanoseconds, rising.
+fn sorted(times: impl Iterator<Item = Duration>) -> Vec<f64> {
+    let mut times: Vec<f64> = times.map(|t| t.as_nanos() as f64).collect();
+    times.sort_by(f64::total_cmp);
+    times
+}
+
+fn median(sorted: &[f64]) -> f64 {
+    sorted[sorted.len() / 2]
+}
+
+fn ratio(a: f64, b: f64) -> String {
+    let digits = if a < b / 10.0 { 4 } else { 2 };
+    format!("{:.digits$}", a / b)
 }

@@ -8,9 +8,7 @@ use crate::difference::Input;
 use crate::lent::Lent;
 use cases::{rows, Rng};
 use link::{Derive, DONE};
-use oracle::{
-    build_bone_tags, build_indices, build_transformations, num_hash_buckets, settle_nan, Bone, Chains, Matrix,
-};
+use oracle::{build_bone_tags, build_indices, build_transformations, num_hash_buckets, settle_nan, Bone, Chains, Matrix};
 
 #[derive(Clone, Copy, Debug, PartialEq, Eq)]
 pub enum Call {

@@ -34,6 +34,12 @@ impl fmt::Display for Difference {
     }
 }
 
+impl From<Difference> for String {
+    fn from(d: Difference) -> String {
+        d.to_string()
+    }
+}
+
 /// Ok where both sides give the same answer.
 pub fn compare<I: Input, A: PartialEq + Debug>(
     place: &Place,

@@ -24,7 +24,6 @@ use std::fmt::Display;
 use std::path::Path;
 use std::process::ExitCode;
 use std::time::Instant;
-use tally::Tally;
 
 fn main() -> ExitCode {
     let result = Options::parse(std::env::args().skip(1)).and_then(|o| run(&o));
@@ -63,18 +62,47 @@ fn run(o: &Options) -> Result<(), String> {
     Ok(())
 }
 
-/// Our library against the Rust.
+/// Our library against the Rust, by groups of exports.
 fn ours(o: &Options, failures: &Path) -> Result<(), String> {
-    let library = link::library().ok_or("the harness was built without librig.a; start it with compare/run")?;
+    if !link::LINKED {
+        return Err("the harness was built without librig.a; start it with compare/run".into());
+    }
     let (extent, calls) = if o.long { (Extent::Long, 6_000_000) } else { (Extent::Short, 300_000) };
-    let listed = |t: Tally| format!("\n{t}");
-    println!("our library against the Rust, equal:");
-    stage("fields", "calls", || fields::run(library, failures, o.seed, calls).map_err(|d| d.to_string()))?;
-    stage("hash", "names", || hash::run(library, failures, o.seed, extent).map_err(|d| d.to_string()))?;
-    stage("deriving", "", || derived::run(library, failures, o.seed, extent, o.threads).map(listed).map_err(|d| d.to_string()))?;
-    stage("joints", "", || joints::run(library, failures, o.seed, extent, o.threads).map(listed).map_err(|d| d.to_string()))?;
+    let (seed, threads) = (o.seed, o.threads);
+    println!("our library against the Rust, all equal:");
+    compared(o, "fields", "calls", link::fields(), |l| Ok(fields::run(l, failures, seed, calls)?))?;
+    compared(o, "hash", "names", link::hash(), |l| Ok(hash::run(l, failures, seed, extent)?))?;
+    compared(o, "deriving", "", link::derive(), |l| {
+        let tally = derived::run(l, failures, seed, extent, threads)?;
+        ["tags", "indices", "matrices"].iter().try_for_each(|call| tally.require(call, &["done", "1", "2"]))?;
+        Ok(format!("\n{tally}"))
+    })?;
+    compared(o, "joints", "", link::joints(), |l| {
+        let tally = joints::run(l, failures, seed, extent, threads)?;
+        tally.require("joints read", &["done", "none", "1", "10", "11"])?;
+        tally.require("joints write", &["done", "1", "5", "6"])?;
+        Ok(format!("\n{tally}"))
+    })?;
     println!("the Rust alone:");
     Ok(())
+}
+
+/// Runs the comparison of one group of exports. A group that the library lacks is a line, or an error if required.
+fn compared<L: ?Sized, T: Display>(
+    o: &Options,
+    name: &str,
+    unit: &str,
+    group: Option<&'static L>,
+    run: impl FnOnce(&L) -> Result<T, String>,
+) -> Result<(), String> {
+    match group {
+        Some(group) => stage(name, unit, || run(group)),
+        None if o.required => Err(format!("{name}: librig.a has no such exports")),
+        None => {
+            println!("{name}: not run: librig.a has no such exports");
+            Ok(())
+        }
+    }
 }
 
 /// Runs one stage and prints what it gives and its time.

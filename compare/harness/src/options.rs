@@ -4,6 +4,8 @@
 pub struct Options {
     pub long: bool,
     pub oracle_only: bool,
+    /// What cannot be run is an error.
+    pub required: bool,
     pub seed: u64,
     /// Damaged sections.
     pub count: u64,
@@ -14,14 +16,15 @@ pub struct Options {
 
 impl Options {
     pub fn parse(words: impl Iterator<Item = String>) -> Result<Options, String> {
-        let mut o = Options { long: false, oracle_only: false, seed: 1_000_000, count: 0, threads: 0, store: None };
+        let (seed, count, threads) = (1_000_000, 0, 0);
+        let mut o = Options { long: false, oracle_only: false, required: false, seed, count, threads, store: None };
         let mut words = words;
         while let Some(word) = words.next() {
             let mut number = || words.next().and_then(|w| w.parse().ok()).ok_or(format!("{word} wants a number"));
             match word.as_str() {
                 "--long" => o.long = true,
                 "--oracle-only" => o.oracle_only = true,
-                "--required" => {} // for `run`
+                "--required" => o.required = true,
                 "--seed" => o.seed = number()?,
                 "--count" => o.count = number()?,
                 "--threads" => o.threads = number()?,

@@ -12,7 +12,7 @@ pub const NONE: u32 = 100;
 
 /// The single fields of `rig`. A comparison takes any implementation of its trait, so that a faulty one can
 /// be put in its place.
-pub trait Fields {
+pub trait Fields: Sync {
     fn u16_at(&self, s: &[u8], at: usize) -> u16;
     fn u32_at(&self, s: &[u8], at: usize) -> u32;
     fn u64_at(&self, s: &[u8], at: usize) -> u64;
@@ -61,13 +61,24 @@ pub trait Joints: Sync {
     fn fresh_rotation_limit(&self, out: &mut [u32; 48]);
 }
 
-/// All exports.
-pub trait Library: Fields + Derive + Hash + Joints {}
+/// Whether this crate was built with a library.
+pub const LINKED: bool = cfg!(rig);
 
-/// The library, if this crate was built with it.
-pub fn library() -> Option<&'static dyn Library> {
-    #[cfg(rig)]
-    return Some(&exports::Rig);
-    #[cfg(not(rig))]
-    None
+macro_rules! groups {
+    ($($name:ident: $exports:ident if $group:ident;)*) => {$(
+        /// The group of exports, if the library has it.
+        pub fn $name() -> Option<&'static dyn $exports> {
+            #[cfg($group)]
+            return Some(&exports::Rig);
+            #[cfg(not($group))]
+            None
+        }
+    )*};
+}
+
+groups! {
+    fields: Fields if rig_fields;
+    derive: Derive if rig_derive;
+    hash: Hash if rig_hash;
+    joints: Joints if rig_joints;
 }

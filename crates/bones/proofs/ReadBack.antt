@@ -2,10 +2,10 @@
 -- Assumes nothing.
 use Prim.Native.Nat.{ℕ, zero, suc, _+_, _*_, _/_, _%_, _^_, _<_}
 use native.Mathlib.Omega.{arith}
-use mathlib.Core.Path.{_≡_, refl, sym, ap, _∙_}
+use mathlib.Core.Path.{_≡_, refl, sym, ap}
 use mathlib.Core.Option.{Option, none, some}
 use mathlib.Core.List.{List, [], _∷_, _++_, flatMap, append-assoc}
-use lib.ListN.{length, getD, drop}
+use lib.ListN.{length, getD}
 use lib.Seq.{drop-at}
 use Rattle.format.specs.Section.{Place}
 use Rattle.format.specs.Bone.{Bone}

@@ -1,14 +1,13 @@
 -- The bones of a table row by row: the p-th of the first n bones is the bone in row p. Assumes nothing.
 use Prim.Native.Nat.{ℕ, zero, suc, _+_, _*_, _<_}
 use native.Mathlib.Omega.{arith}
-use mathlib.Core.Path.{_≡_, refl, sym, ap, _∙_}
+use mathlib.Core.Path.{_≡_, refl, ap, _∙_}
 use mathlib.Core.List.{List, [], _∷_, _++_, map}
 use lib.ListN.{length, getD, drop, length-map}
 use lib.Seq.{drop-drop}
 use Rattle.format.specs.Section.{Place}
 use Rattle.format.specs.Bone.{Bone}
 use Rattle.format.specs.Chains.{upFrom}
-use Rattle.format.specs.Deriving.{tags, parents, indices}
 use Rattle.format.specs.Rows.{boneWidth, boneOf, bonesOf}
 use Rattle.bones.specs.Row.{rowWords, rowAt}
 

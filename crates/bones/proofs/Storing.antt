@@ -1,9 +1,9 @@
 -- Laws of a bone's row as it is stored: the words that the code makes are the bone's, and where they go. Assumes nothing.
 use Prim.Native.Nat.{ℕ, _+_, _*_, _/_, _%_, _^_, _≤_, _<_}
 use native.Mathlib.Omega.{arith}
-use mathlib.Core.Path.{_≡_, refl, sym, ap, _∙_}
-use mathlib.Core.Bool.{Bool, true, false}
-use mathlib.Core.List.{List, [], _∷_, _++_}
+use mathlib.Core.Path.{_≡_, sym, ap, _∙_}
+use mathlib.Core.Bool.{true, false}
+use mathlib.Core.List.{List, [], _∷_}
 use lib.ListN.{length}
 use lib.Seq.{sets}
 use borrow.Author.Tests.{le-leb, lt-leb}
@@ -14,7 +14,6 @@ use Rattle.bones.specs.Row.{hasRow, putRow}
 use Rattle.bones.specs.Value.{ourPlace, meantBone, storedIf}
 use Rattle.bones.specs.declared.Bone.{Bone}
 use Rattle.format.specs.declared.Place.{Place}
-use Rattle.bones.specs.declared.Stored.{Stored}
 use Rattle.bones.specs.declared.Stored.the-variants.{Done, NoRoom}
 use Rattle.bones.proofs.Words.{place-words}
 
@@ -24,7 +23,8 @@ pub bone-words-made :
     → n ≡ ourPlace (placeOf (b .name .address) (b .name .size))
     → links ≡ pair (b .«next_sibling») (b .parent) → marks ≡ pair (b .flags) (b .index)
     → a₀ ≡ n .address % 2 ^ 32 → a₁ ≡ n .address / 2 ^ 32 → s₀ ≡ n .size % 2 ^ 32 → s₁ ≡ n .size / 2 ^ 32
-    → b .rotation .x ∷ b .rotation .y ∷ b .rotation .z ∷ b .rotation .w ∷ b .translation .x ∷ b .translation .y ∷ b .translation .z ∷
+    → b .rotation .x ∷ b .rotation .y ∷ b .rotation .z ∷ b .rotation .w ∷ b .translation .x ∷ b .translation .y ∷ b .translation
+    .z ∷
     b .scale .x ∷ b .scale .y ∷ b .scale .z ∷ links ∷ marks ∷ b .tag ∷ b .kept .x ∷ b .kept .y ∷ b .kept .z ∷ b .kept .w ∷
     a₀ ∷ a₁ ∷ s₀ ∷ s₁ ∷ []
     ≡ boneWords (meantBone b)

@@ -1,13 +1,13 @@
 -- Laws of the words of one row: what lies in the table and what does not, a name's place, and words stored one by one.
 -- Assumes nothing.
-use Prim.Native.Nat.{ℕ, zero, suc, _+_, _*_, _-_, _≤_, _<_}
+use Prim.Native.Nat.{ℕ, zero, suc, _+_, _*_, _≤_, _<_}
 use native.Mathlib.Omega.{arith}
 use native.Mathlib.Numerals.{add-one}
-use mathlib.Core.Path.{_≡_, refl, sym, ap, _∙_}
-use mathlib.Core.List.{List, [], _∷_, _++_}
+use mathlib.Core.Path.{_≡_, refl, sym, _∙_}
+use mathlib.Core.List.{List, _++_}
 use mathlib.Core.Option.{Option, none, some}
-use lib.ListN.{length, getD, drop, set, length-set, length-drop, drop-of-length-le, List·getD-eq-default}
-use lib.Seq.{getD-drop, paste, paste-zero, paste-suc, length-paste, sets, sets-eq, take-length}
+use lib.ListN.{length, getD, set, length-set, List·getD-eq-default}
+use lib.Seq.{getD-drop, paste, paste-zero, paste-suc, sets, sets-eq, take-length}
 use Rattle.format.specs.Section as section
 use Rattle.format.specs.Rows.{placeWords, twoWords, placeOf}
 use Rattle.bones.specs.Row.{rowWords}

@@ -1,6 +1,5 @@
 -- The structs of the code and the records of `format` that they stand for: `our..` from the format, `meant..` to it.
 -- Definitions only.
-use Prim.Native.Nat.{ℕ}
 use mathlib.Core.Bool.{Bool, true, false}
 use mathlib.Core.Option.{Option, none, some}
 use Rattle.math.specs.Word.{floatOf}

@@ -90,9 +90,11 @@ module _ (parents t : List ℕ) (i : ℕ) (inside : i < length parents) (room : 
   first-link : getD (asFirst parents t i s) (3 * length parents + i + 1) 0 ≡ getD t (2 * length parents + s) 0
   first-link =
       let y = getD t (2 * length parents + s) 0 in
-      let n : length (headed parents t i) ≡ length t = length-set (set t i 0) (4 * length parents + i + 1) (i + 1) ∙ length-set t i 0 in
+      let n : length (headed parents t i) ≡ length t =
+      length-set (set t i 0) (4 * length parents + i + 1) (i + 1) ∙ length-set t i 0 in
       let h : 3 * length parents + i + 1 < length (headed parents t i) = omega (arith, n) in
-      getD-set-other (linkedTo parents t i s) (2 * length parents + s) (3 * length parents + i + 1) (i + 1) 0 (λ q. absurd (omega arith))
+      getD-set-other (linkedTo parents t i s) (2 * length parents + s) (3 * length parents + i + 1) (i + 1) 0
+      (λ q. absurd (omega arith))
       ∙ getD-set-same (headed parents t i) (3 * length parents + i + 1) y 0 h
 
   first-head : getD (asFirst parents t i s) (4 * length parents + i + 1) 0 ≡ suc i
@@ -123,7 +125,8 @@ module _ (parents t : List ℕ) (i : ℕ) (inside : i < length parents) (x : Ind
       → Sought parents (linkAt parents t) (getD parents i 0) (firstAt parents t s) (suc r)
       → headAt parents t r ≡ firstOf (after parents (getD parents i 0) (suc i))
   found s r es k =
-      looked parents (firstAt parents t) (linkAt parents t) (headAt parents t) (suc i) (x .index) (getD parents i 0) s (suc r) es k
+      looked parents (firstAt parents t) (linkAt parents t) (headAt parents t) (suc i) (x .index)
+      (getD parents i 0) s (suc r) es k
 
   enter-behind :
       (s j : ℕ) → s ≡ slotOf parents (getD parents i 0)
@@ -171,7 +174,8 @@ module _ (parents t : List ℕ) (i : ℕ) (inside : i < length parents) (x : Ind
       let eB : 3 * length parents + suc i ≡ 3 * length parents + i + 1 = omega arith in
       let er : r ≡ 0 = omega arith in
       let none : 0 ≡ firstOf (after parents (getD parents i 0) (suc i)) =
-      looked parents (firstAt parents t) (linkAt parents t) (headAt parents t) (suc i) (x .index) (getD parents i 0) s 0 es (rw er at k) in
+      looked parents (firstAt parents t) (linkAt parents t) (headAt parents t) (suc i) (x .index)
+      (getD parents i 0) s 0 es (rw er at k) in
       record {
         room = rw (length-first parents t i inside (x .room) s slot) (x .room);
         index =

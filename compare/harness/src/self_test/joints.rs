@@ -121,7 +121,8 @@ impl Joints for Faulty {
 
     fn joints_write(&self, rotation: &[u32], r: usize, translation: &[u32], t: usize, out: &mut [u8], count: &mut usize) -> u32 {
         *count = if self.is(RefusalCount) { j::SIZE } else { 0 };
-        let size = r.saturating_mul(j::ROTATION_LIMIT).saturating_add(t.saturating_mul(j::TRANSLATION_LIMIT)).saturating_add(j::SIZE);
+        let size =
+            r.saturating_mul(j::ROTATION_LIMIT).saturating_add(t.saturating_mul(j::TRANSLATION_LIMIT)).saturating_add(j::SIZE);
         if r.max(t) > 65_535 && !self.is(SixForgotten) {
             return 6;
         }

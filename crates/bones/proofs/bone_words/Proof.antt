@@ -30,8 +30,11 @@ upper-word-requires-2 c κs = search needs
 
 returns : tie.Need-returns
 returns c =
-    bone-words-made _ _ _ _ _ _ _ _ (c .before .before .before .before .before .before .before .place-of .ensures) (c .before .before .before .before .before .before .both-halves .ensures) (c .before .before .before .before .before .both-halves2 .ensures)
-    (c .before .before .before .lower-word .ensures) (c .before .before .upper-word .ensures) (c .before .lower-word2 .ensures) (c .upper-word2 .ensures)
+    bone-words-made _ _ _ _ _ _ _ _ (c .before .before .before .before .before .before .before .place-of .ensures) (c .before
+    .before .before .before .before .before .both-halves .ensures) (c .before .before .before .before .before .both-halves2
+    .ensures)
+    (c .before .before .before .lower-word .ensures) (c .before .before .upper-word .ensures) (c .before .lower-word2 .ensures) (c
+    .upper-word2 .ensures)
 
 pub bone-words-spec : {M : Type 1} → statement M
 bone-words-spec =

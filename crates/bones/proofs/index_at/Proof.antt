@@ -1,5 +1,6 @@
 -- `bones::index_at` meets its contract. Assumes nothing.
-use Rattle.format.specs.Rows.{boneOf}
+use mathlib.Core.Path.{ap, _∙_}
+use Rattle.format.specs.Rows.{upper, boneOf}
 use borrow.Author.Needs.{needs}
 use Rattle.bones.proofs.index_at.Statement.{statement}
 use Rattle.bones.proofs.index_at.Tie as tie
@@ -12,7 +13,7 @@ upper-half-requires c κs = search needs
 
 returns : tie.Need-returns
 unfolding boneOf
-returns c = cc
+returns c = c .upper-half .ensures ∙ ap upper (c .before .word-at .ensures)
 
 pub index-at-spec : {M : Type 1} → statement M
 index-at-spec = tie.close (tie.spec word-at-requires upper-half-requires returns)

@@ -9,7 +9,7 @@ words4-at-requires c κs = search needs
 
 returns : tie.Need-returns
 unfolding boneOf
-returns c = cc
+returns c = c .words4-at .ensures
 
 pub kept-at-spec : {M : Type 1} → statement M
 kept-at-spec = tie.close (tie.spec words4-at-requires returns)

@@ -1,5 +1,4 @@
 -- `bones::put_bone` meets its contract. Assumes nothing.
-use Rattle.bones.specs.Value.{meantBone}
 use Rattle.bones.proofs.Storing.{put-refused, put-done}
 use borrow.Author.Needs.{needs}
 use Rattle.bones.proofs.put_bone.Statement.{statement}
@@ -26,7 +25,8 @@ same-length c = search needs
 returns-2 : tie.Need-returns-2
 returns-2 c =
     let a = c .before .before .before .before .before .before .before .before .args in
-    put-done (a .t .now) (a .p) _ (c .before .before .before .before .before .before .if1 .left) (c .before .before .before .before .before .bone-words .ensures) (c .before .before .put-words .ensures)
+    put-done (a .t .now) (a .p) _ (c .before .before .before .before .before .before .if1 .left) (c .before .before .before
+    .before .before .bone-words .ensures) (c .before .before .put-words .ensures)
 
 pub put-bone-spec : {M : Type 1} → statement M
 put-bone-spec =

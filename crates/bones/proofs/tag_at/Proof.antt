@@ -1,5 +1,6 @@
 -- `bones::tag_at` meets its contract. Assumes nothing.
-use Rattle.format.specs.Rows.{boneOf}
+use mathlib.Core.Path.{ap, _∙_}
+use Rattle.format.specs.Rows.{lower, boneOf}
 use borrow.Author.Needs.{needs}
 use Rattle.bones.proofs.tag_at.Statement.{statement}
 use Rattle.bones.proofs.tag_at.Tie as tie
@@ -12,7 +13,7 @@ lower-half-requires c κs = search needs
 
 returns : tie.Need-returns
 unfolding boneOf
-returns c = cc
+returns c = c .lower-half .ensures ∙ ap lower (c .before .word-at .ensures)
 
 pub tag-at-spec : {M : Type 1} → statement M
 tag-at-spec = tie.close (tie.spec word-at-requires lower-half-requires returns)

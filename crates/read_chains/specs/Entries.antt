@@ -1,0 +1,93 @@
+-- What reading entries and chains promises, over every tables that the lent ones hold (document 01, "Reading and writing a
+-- skeleton"). Of a refusal the number alone is said. Definitions only.
+use Prim.Native.Nat.{ℕ, suc, _+_, _-_}
+use mathlib.Core.Path.{_≡_}
+use mathlib.Core.Option.{Option, none, some}
+use mathlib.Core.List.{List}
+use Rattle.format.specs.Result.{Res, refused, done, _>>=_}
+use Rattle.format.specs.Refusal.{number}
+use Rattle.format.specs.Field.{field}
+use Rattle.format.specs.Section.{Section, part}
+use Rattle.format.specs.Records.{entryTag, entryPosition, entryNext}
+use Rattle.format.specs.Tables.{Tables, Room}
+use Rattle.format.specs.Read.{Step, linkTo, readChain, readHead}
+use Rattle.blocks.specs.Hashed.{Represents}
+use Rattle.read_chains.specs.Lent.{Linked, HoldsEntries, Comes}
+use Rattle.read_chains.specs.declared.chains.Entry.{Entry}
+use Rattle.read_chains.specs.declared.chains.Fields.{Fields}
+use Rattle.read_chains.specs.declared.chains.Fields.the-variants as F
+use Rattle.read_chains.specs.declared.chains.Link.{Link}
+use Rattle.read_chains.specs.declared.chains.Link.the-variants as L
+use Rattle.read_chains.specs.declared.chains.Step.{Step as Answer}
+use Rattle.read_chains.specs.declared.chains.Step.the-variants as S
+use Rattle.read_chains.specs.declared.chains.Chain.{Chain}
+use Rattle.read_chains.specs.declared.chains.Chain.the-variants as C
+use Rattle.read_chains.specs.declared.chains.Head.{Head}
+use Rattle.read_chains.specs.declared.chains.Head.the-variants as H
+
+-- ---- the fields of an entry
+
+abbrev pub entryIn : List ℕ → ℕ → Entry
+entryIn half at = record { tag = field 4 half at; position = field 4 half (at + 4); next = field 8 half (at + 8) }
+
+-- those of its sixteen bytes
+abbrev pub entryOf : List ℕ → Entry
+entryOf b = record { tag = entryTag b; position = entryPosition b; next = entryNext b }
+
+unfoldable pub entryAt : Section → ℕ → Res Entry
+entryAt sec va = do
+  b ← part sec va 16
+  done (entryOf b)
+
+abbrev pub meantFields : Fields → Res Entry
+meantFields (F.At e) = done e
+meantFields (F.Refused x) = refused (number x)
+
+-- what an entry comes to where no row is left
+unfoldable pub noRow : Section → ℕ → Res Tables
+noRow sec va = do
+  b ← part sec va 16
+  refused 1
+
+-- ---- links
+
+abbrev pub meantLink : Link → Res (Option ℕ)
+meantLink (L.To k) = done (some k)
+meantLink L.Unread = done none
+meantLink (L.Refused x) = refused (number x)
+
+pub record LinksTo (p : List ℕ) (va : ℕ) (r : Link) : Type 0 where
+  pub links : {n : ℕ} (t : Tables) → Represents p n t.pool → Linked t.pool → meantLink r ≡ linkTo va t
+
+-- ---- one entry
+
+-- g is the chain from an entry on; `left` rows are left behind the entry's own
+abbrev pub Stepped : Section → Room → ℕ → Res Tables → ℕ → List ℕ → List ℕ → Answer → Type 0
+Stepped sec room left g used e p S.End = Comes (λ u. HoldsEntries room u used e p) g done
+Stepped sec room left g used e p (S.Next a) = Comes (λ u. HoldsEntries room u used e p) g (readChain sec room left a)
+Stepped sec room left g used e p (S.Refused x) = g ≡ refused (number x)
+
+pub record ReadsEntry (sec : Section) (va row : ℕ) (r : Answer) (e₀ e p₀ p : List ℕ) : Type 0 where
+  pub reads :
+      {room : Room} {t : Tables} → HoldsEntries room t row e₀ p₀ → (left : ℕ) →
+      Stepped sec room left (readChain sec room (suc left) va t) (row + 1) e p r
+
+-- ---- a chain
+
+abbrev pub Chained : Room → Res Tables → List ℕ → List ℕ → Chain → Type 0
+Chained room g e p (C.Done used) = Comes (λ u. HoldsEntries room u used e p) g done
+Chained room g e p (C.Refused x) = g ≡ refused (number x)
+
+pub record ReadsChain (sec : Section) (va used : ℕ) (r : Chain) (e₀ e p₀ p : List ℕ) : Type 0 where
+  pub reads :
+      {room : Room} {t : Tables} → HoldsEntries room t used e₀ p₀ →
+      Chained room (readChain sec room (room .entries - used) va t) e p r
+
+-- ---- the link to a chain's head
+
+abbrev pub Headed : Room → Step ℕ → List ℕ → List ℕ → Head → Type 0
+Headed room g e p (H.At link used) = Comes (λ u. HoldsEntries room u used e p) g (λ u. done (link, u))
+Headed room g e p (H.Refused x) = g ≡ refused (number x)
+
+pub record ReadsHead (sec : Section) (va used : ℕ) (r : Head) (e₀ e p₀ p : List ℕ) : Type 0 where
+  pub reads : {room : Room} {t : Tables} → HoldsEntries room t used e₀ p₀ → Headed room (readHead sec room va t) e p r

@@ -1,0 +1,4 @@
+pub mod Lists
+pub mod Storing
+pub mod Pooling
+pub mod Reads
