@@ -8,22 +8,27 @@ use oracle::{joints_write, rage_joaat, PreparedLimits, PreparedSection, Rotation
 
 const SEED: u64 = 1;
 
-/// Reading and writing of 100 limits, 50 of each kind.
+/// Reading and writing of 100 limits of each kind.
 pub fn joints(table: &Table, library: &dyn Joints) {
-    const EACH: usize = 50;
+    const LIMITS: usize = 100;
     let mut rng = Rng::new(SEED);
-    let rotations: Vec<RotationLimit> = (0..EACH).map(|_| rotation_limit(&mut rng)).collect();
-    let translations: Vec<TranslationLimit> = (0..EACH).map(|_| translation_limit(&mut rng)).collect();
+    let rotations: Vec<RotationLimit> = (0..LIMITS).map(|_| rotation_limit(&mut rng)).collect();
+    let translations: Vec<TranslationLimit> = (0..LIMITS).map(|_| translation_limit(&mut rng)).collect();
+    one_kind(table, library, "100 rotation limits", &rotations, &[]);
+    one_kind(table, library, "100 translation limits", &[], &translations);
+}
+
+fn one_kind(table: &Table, library: &dyn Joints, input: &str, rotations: &[RotationLimit], translations: &[TranslationLimit]) {
+    let (r, t) = (rotations.len(), translations.len());
     let mut rotation: Vec<u32> = rotations.iter().flat_map(rows::rotation).collect();
     let mut translation: Vec<u32> = translations.iter().flat_map(rows::translation).collect();
-    let section = joints_write(&rotations, &translations).section();
-    let row = |call| Row { call, input: "50 rotation and 50 translation limits", units: 2 * EACH, unit: "a limit" };
-    let (mut out, mut count) = (vec![1; section.len()], 0);
-    let prepared = PreparedLimits::new(&rotations, &translations);
-    let write = || timed(|| assert_eq!(library.joints_write(&rotation, EACH, &translation, EACH, &mut out, &mut count), DONE));
-    table.both(&row("joints write"), write, || timed(|| prepared.joints_write()));
-    let mut fields = [0; 7];
-    let read = || {
+    let section = joints_write(rotations, translations).section();
+    let row = |call| Row { call, input, units: r + t, unit: "a limit" };
+    let (mut out, mut count, mut fields) = (vec![1; section.len()], 0, [0; 7]);
+    let prepared = PreparedLimits::new(rotations, translations);
+    let ours = || timed(|| assert_eq!(library.joints_write(&rotation, r, &translation, t, &mut out, &mut count), DONE));
+    table.both(&row("joints write"), ours, || timed(|| prepared.joints_write()));
+    let ours = || {
         let (r, t) = (&mut rotation, &mut translation);
         timed(|| assert_eq!(library.joints_read(&section, &[], SYSTEM_BASE, r, t, &mut fields), DONE))
     };
@@ -31,7 +36,7 @@ pub fn joints(table: &Table, library: &dyn Joints) {
         let prepared = PreparedSection::new(&section);
         timed(|| prepared.joints_read(SYSTEM_BASE))
     };
-    table.both(&row("joints read"), read, rust);
+    table.both(&row("joints read"), ours, rust);
 }
 
 /// 1,000 names of 4 to 20 letters, and one long string.

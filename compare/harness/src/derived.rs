@@ -132,28 +132,30 @@ pub struct DeriveAnswer {
 pub fn ours(library: &dyn Derive, i: &DeriveInput) -> DeriveAnswer {
     let (mut rng, lengths, n) = (Rng::new(i.dirt), i.lengths(), i.n);
     let mut bones = Lent::of(&i.bones);
-    let (mut count, mut intact) = (rng.next() as usize, true);
+    let (mut counted, mut intact) = (Lent::<usize>::dirty(1, &mut rng), true);
+    let [count] = counted.array();
     let (status, tables) = match i.call {
         Tags => {
             let [mut buckets, mut entries] = [0, 1].map(|t| Lent::<u32>::dirty(lengths[t], &mut rng));
-            let status = library.build_bone_tags(bones.slice(), n, buckets.slice(), entries.slice(), &mut count);
+            let status = library.build_bone_tags(bones.slice(), n, buckets.slice(), entries.slice(), count);
             (status, vec![buckets.back(&mut intact), entries.back(&mut intact)])
         }
         Indices => {
             let [mut parents, mut children] = [0, 1].map(|t| Lent::<u16>::dirty(lengths[t], &mut rng));
             let mut pending = Lent::<u32>::dirty(lengths[2], &mut rng);
             let (p, c, w) = (parents.slice(), children.slice(), pending.slice());
-            let status = library.build_indices(bones.slice(), n, p, c, w, &mut count);
+            let status = library.build_indices(bones.slice(), n, p, c, w, count);
             (status, vec![parents.back(&mut intact), children.back(&mut intact), pending.back(&mut intact)])
         }
         Matrices => {
-            count = 0;
+            *count = 0;
             let [mut inverse, mut local] = [0, 1].map(|t| Lent::<u32>::dirty(lengths[t], &mut rng));
             let status = library.build_transformations(bones.slice(), n, inverse.slice(), local.slice());
             (status, vec![inverse.back(&mut intact), local.back(&mut intact)])
         }
     };
     bones.kept(&i.bones, &mut intact);
+    let count = counted.back(&mut intact)[0];
     let chains = if i.call == Tags { follow(tables[0].get(..count).unwrap_or(&[]), &tables[1]) } else { Vec::new() };
     DeriveAnswer { status, count, tables, chains, intact }
 }

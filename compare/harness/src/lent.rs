@@ -20,7 +20,7 @@ macro_rules! items {
     )*};
 }
 
-items! { u8 u16 u32 }
+items! { u8 u16 u32 usize }
 
 /// The guard's items on either side.
 const WIDTH: usize = 16;
@@ -41,6 +41,11 @@ impl<T: Item> Lent<T> {
     pub fn slice(&mut self) -> &mut [T] {
         let end = self.0.len() - WIDTH;
         &mut self.0[WIDTH..end]
+    }
+
+    /// The slice as an array of its length.
+    pub fn array<const N: usize>(&mut self) -> &mut [T; N] {
+        self.slice().try_into().expect("a slice of that length")
     }
 
     /// What the slice holds after the call; `intact` ends where a guard was touched.

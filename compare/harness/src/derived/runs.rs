@@ -101,20 +101,18 @@ impl Runs<'_> {
             for call in CALLS {
                 let input = DeriveInput { call, bones: bones.clone(), n, room: [0; 3], dirt: self.seed };
                 let mut all = vec![
+                    input.clone(),
                     DeriveInput { room: [-1; 3], ..input.clone() },
                     DeriveInput { room: [isize::MIN; 3], ..input.clone() },
                     DeriveInput { bones: Vec::new(), room: [isize::MIN; 3], ..input.clone() },
                 ];
                 all.extend(bones.split_last().map(|(_, short)| DeriveInput { bones: short.to_vec(), ..input.clone() }));
-                // the published child list of 65,535 bones takes seconds: there refusals alone
-                let longer = if n == MOST && call == Indices { None } else { Some(1) };
-                for table in 0..3 {
-                    for more in longer.into_iter().chain([-1]) {
-                        let mut room = [0; 3];
-                        room[table] = more;
-                        all.push(DeriveInput { room, ..input.clone() });
-                    }
+                for (table, more) in (0..3).flat_map(|table| [(table, 1), (table, -1)]) {
+                    let mut room = [0; 3];
+                    room[table] = more;
+                    all.push(DeriveInput { room, ..input.clone() });
                 }
+                // the published child list of 65,535 bones takes seconds: there refusals alone
                 all.retain(|i| !(n == MOST && call == Indices && i.status() == link::DONE));
                 all.iter().try_for_each(|i| self.one(tally, i))?;
             }

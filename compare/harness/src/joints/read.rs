@@ -4,7 +4,7 @@ use crate::difference::Input;
 use crate::lent::Lent;
 use cases::records::joints as j;
 use cases::{rows, Rng, Section};
-use link::{JointFields, Joints, DONE, NONE};
+use link::{Joints, DONE, NONE};
 use oracle::{joints_read, JointsAnswer};
 
 /// A section and the words of the two lent tables.
@@ -35,7 +35,7 @@ impl Input for ReadInput {
 #[derive(Debug, PartialEq, Eq)]
 pub struct ReadAnswer {
     pub status: u32,
-    fields: JointFields,
+    fields: Vec<u32>,
     rotation: Vec<u32>,
     translation: Vec<u32>,
     /// Both halves and the guards are as they were.
@@ -47,12 +47,12 @@ pub fn ours(library: &dyn Joints, i: &ReadInput) -> ReadAnswer {
     let (s, mut rng, mut intact) = (&i.section, Rng::new(i.dirt), true);
     let [mut system, mut graphics] = [&s.system, &s.graphics].map(|half| Lent::of(half));
     let [mut rotation, mut translation] = [i.rotation, i.translation].map(|length| Lent::<u32>::dirty(length, &mut rng));
-    let mut fields = [0; 7].map(|_: u32| rng.next() as u32);
-    let (r, t) = (rotation.slice(), translation.slice());
-    let status = library.joints_read(system.slice(), graphics.slice(), s.root, r, t, &mut fields);
+    let mut fields = Lent::<u32>::dirty(7, &mut rng);
+    let (r, t, f) = (rotation.slice(), translation.slice(), fields.array());
+    let status = library.joints_read(system.slice(), graphics.slice(), s.root, r, t, f);
     system.kept(&s.system, &mut intact);
     graphics.kept(&s.graphics, &mut intact);
-    let (rotation, translation) = (rotation.back(&mut intact), translation.back(&mut intact));
+    let [fields, rotation, translation] = [fields, rotation, translation].map(|lent| lent.back(&mut intact));
     ReadAnswer { status, fields, rotation, translation, intact }
 }
 
@@ -83,7 +83,7 @@ pub fn rust(i: &ReadInput) -> ReadAnswer {
     let [mut rotation, mut translation] = lists;
     rotation.resize(i.rotation, 0);
     translation.resize(i.translation, 0);
-    ReadAnswer { status, fields, rotation, translation, intact: true }
+    ReadAnswer { status, fields: fields.to_vec(), rotation, translation, intact: true }
 }
 
 /// The words of the rotation list's rows if that list is read, whatever becomes of the other list: the

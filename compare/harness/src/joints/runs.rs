@@ -4,6 +4,7 @@ use super::read::{self, ReadInput};
 use super::write::{self, WriteInput};
 use crate::difference::{compare, Difference, Input, Place};
 use crate::extent::Extent;
+use crate::lent::Lent;
 use crate::share::share;
 use crate::tally::{status, Tally};
 use cases::joints::{damaged, good, limits};
@@ -68,12 +69,12 @@ impl Runs<'_> {
 
     fn fresh(&self, tally: &mut Tally) -> Result<(), Difference> {
         let ours = |_: &Nothing| {
-            let mut words = [u32::MAX; 48];
-            self.library.fresh_rotation_limit(&mut words);
-            words
+            let (mut words, mut intact) = (Lent::<u32>::dirty(48, &mut Rng::new(self.seed)), true);
+            self.library.fresh_rotation_limit(words.array());
+            (words.back::<u32>(&mut intact), intact)
         };
         tally.count("fresh limit", "done");
-        compare(&self.place("fresh_limit"), &Nothing, ours, |_| fresh_rotation_limit().other)
+        compare(&self.place("fresh_limit"), &Nothing, ours, |_| (fresh_rotation_limit().other.to_vec(), true))
     }
 
     /// Counts of 0 and 65,535 at pointers that are 0, good, the end, past it and in neither half.

@@ -69,12 +69,14 @@ impl WriteInput {
 
 /// Makes the call on a dirty buffer between guards.
 pub fn ours(library: &dyn Joints, i: &WriteInput) -> WriteAnswer {
-    let (mut count, mut intact) = (i.dirt as usize, true);
+    let (mut count, mut intact) = (Lent::<usize>::dirty(1, &mut Rng::new(i.dirt)), true);
     let [mut rotation, mut translation] = [&i.rotation, &i.translation].map(|words| Lent::of(words));
     let mut out = Lent::of(&i.dirty());
-    let status = library.joints_write(rotation.slice(), i.r, translation.slice(), i.t, out.slice(), &mut count);
+    let [counted] = count.array();
+    let status = library.joints_write(rotation.slice(), i.r, translation.slice(), i.t, out.slice(), counted);
     rotation.kept(&i.rotation, &mut intact);
     translation.kept(&i.translation, &mut intact);
+    let count = count.back(&mut intact)[0];
     WriteAnswer { status, count, out: out.back(&mut intact), intact }
 }
 

@@ -1,0 +1,4 @@
+pub mod Lent
+pub mod Bones
+pub mod Blocks
+pub mod Columns

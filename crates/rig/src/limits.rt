@@ -1,0 +1,118 @@
+// What C and Rust call to read and write joints (document 01, "Joints and names"). A status is 0, 100 for none, or document 01's number
+// of the refusal.
+ghost use mathlib.Core.Path.{_≡_};
+ghost use lib.ListN.{length};
+ghost use Rattle.format.specs.Joints.{freshSlots};
+ghost use Rattle.format.specs.Rows.{laid};
+ghost use Rattle.joints.specs.Reading.{tableRead, rotationTable, translationTable};
+ghost use Rattle.joints.specs.Written.{tableWritten, sizeOf, leftIn};
+ghost use Rattle.rig.specs.Answer.{status, counted, readStatus, numberIf, countIf, jointsFields};
+use joints::read::JointsRead;
+use joints::write::JointsWritten;
+
+// The status of "none".
+const NOTHING: u32 = 100;
+
+fn number_if(b: bool) -> u32
+    ensures { λ r. ⌜ r ≡ numberIf b ⌝ }
+{
+    if b {
+        return 1;
+    }
+    0
+}
+
+fn count_if(b: bool, n: u16) -> u32
+    ensures { λ r. ⌜ r ≡ countIf b n ⌝ }
+{
+    if b {
+        return n as u32;
+    }
+    0
+}
+
+// The joints at a root address. `fields` are the kind word, the two stored counts, and of each list whether it stands and how many
+// limits it has.
+#[no_mangle]
+pub extern "C" fn rig_joints_read(
+    sys: &[u8],
+    gfx: &[u8],
+    root: u64,
+    rotation: &mut [u32],
+    translation: &mut [u32],
+    fields: &mut [u32; 7],
+) -> u32
+    ensures answer { λ r. ⌜ r
+        ≡ readStatus (tableRead (now (sys .entry)) (now (gfx .entry)) root (now (rotation .entry)) (now (translation .entry))) ⌝ }
+    ensures fields { λ _. ⌜ now (fields .exit)
+        ≡ jointsFields (tableRead (now (sys .entry)) (now (gfx .entry)) root (now (rotation .entry)) (now (translation .entry))) ⌝ }
+    ensures rotation { λ _. ⌜ now (rotation .exit) ≡ laid
+        (rotationTable (tableRead (now (sys .entry)) (now (gfx .entry)) root (now (rotation .entry)) (now (translation .entry))))
+        (length (now (rotation .entry))) ⌝ }
+    ensures translation { λ _. ⌜ now (translation .exit) ≡ laid
+        (translationTable (tableRead (now (sys .entry)) (now (gfx .entry)) root (now (rotation .entry)) (now (translation .entry))))
+        (length (now (translation .entry))) ⌝ }
+{
+    match joints::read::read(sys, gfx, root, rotation, translation) {
+        JointsRead::Nothing => {
+            *fields = [0; 7];
+            NOTHING
+        }
+        JointsRead::Read(j) => {
+            let r = j.rotation;
+            let t = j.translation;
+            *fields = [
+                j.kind,
+                j.rotation_count as u32,
+                j.translation_count as u32,
+                number_if(r.stands),
+                count_if(r.stands, j.rotation_count),
+                number_if(t.stands),
+                count_if(t.stands, j.translation_count),
+            ];
+            0
+        }
+        JointsRead::Refused(r) => {
+            *fields = [0; 7];
+            format::code(r)
+        }
+    }
+}
+
+// The section of the limits in the first r and t rows of two tables. `count` is the number of its bytes, 0 after a refusal.
+#[no_mangle]
+pub extern "C" fn rig_joints_write(
+    rotation: &[u32],
+    r: usize,
+    translation: &[u32],
+    t: usize,
+    out: &mut [u8],
+    count: &mut usize,
+) -> u32
+    ensures answer { λ s. ⌜ s
+        ≡ status (sizeOf (tableWritten (length (now (out .entry))) (now (rotation .entry)) r (now (translation .entry)) t)) ⌝ }
+    ensures count { λ _. ⌜ now (count .exit)
+        ≡ counted (sizeOf (tableWritten (length (now (out .entry))) (now (rotation .entry)) r (now (translation .entry)) t)) ⌝ }
+    ensures buffer { λ _. ⌜ now (out .exit)
+        ≡ leftIn (tableWritten (length (now (out .entry))) (now (rotation .entry)) r (now (translation .entry)) t)
+        (now (out .entry)) ⌝ }
+{
+    match joints::write::write(rotation, r, translation, t, out) {
+        JointsWritten::Done(n) => {
+            *count = n;
+            0
+        }
+        JointsWritten::Refused(e) => {
+            *count = 0;
+            format::code(e)
+        }
+    }
+}
+
+// The slots of a fresh rotation limit.
+#[no_mangle]
+pub extern "C" fn rig_fresh_rotation_limit(out: &mut [u32; 48])
+    ensures slots { λ _. ⌜ now (out .exit) ≡ freshSlots ⌝ }
+{
+    *out = joints::limits::fresh_rotation_limit();
+}
