@@ -1,6 +1,7 @@
 //! Which derivations are compared.
 
-use super::{ours, rust, Call, DeriveInput, MOST};
+use super::input::{Call, DeriveInput, MOST};
+use super::{ours, rust};
 use crate::difference::{compare, Difference, Input, Place};
 use crate::extent::Extent;
 use crate::share::share;

@@ -1,0 +1,6 @@
+pub mod Headers
+pub mod Firsts
+pub mod One
+pub mod Two
+pub mod Filling
+pub mod Whole

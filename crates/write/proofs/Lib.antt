@@ -1,0 +1,14 @@
+pub mod Runs
+pub mod Items
+pub mod Placing
+pub mod Linked
+pub mod Bones
+pub mod Naming
+pub mod Totals
+pub mod Derived
+pub mod NamesIgnored
+pub mod Parts
+pub mod Sections
+pub mod Stages
+pub mod Outcomes
+pub mod Tabling

@@ -1,0 +1,120 @@
+-- Bytes stored one behind the other: what is left to store gives the whole. In order: stores that do not meet; what is left;
+-- words of k bytes, bytes as they are and zeros, as the loops store them; a part with its fill. Assumes nothing.
+use mathlib.Core.Path.{_≡_, refl, sym, ap, _∙_}
+use mathlib.Core.List.{List, [], _∷_, _++_, append-nil}
+use Prim.Native.Nat.{ℕ, suc, _+_, _-_, _*_, _≤_, _<_}
+use native.Mathlib.Nat.{add-zero, sub-zero, mul-zero, mul-suc, add-assoc}
+use native.Mathlib.Numerals.{add-one}
+use native.Mathlib.Omega.{arith}
+use lib.ListN.{length, getD, drop, set, replicate, length-append, drop-of-length-le}
+use lib.Seq.{sets, length-sets, drop-cons, set-comm}
+use Rattle.format.specs.Field.{bytes, wordBytes}
+use Rattle.format.specs.Layout.{fill, pad16}
+use Rattle.format.proofs.Fields.{length-bytes}
+use Rattle.fields.proofs.Stores.{sets-append}
+
+-- ---- stores that do not meet
+
+set-past : (b s : List ℕ) (i j x : ℕ) → i < j → sets (set s i x) j b ≡ set (sets s j b) i x
+set-past [] s i j x h = refl
+set-past (y ∷ b) s i j x h =
+    ap (λ (l : List ℕ). sets l (suc j) b) (set-comm s i j x y (λ e. omega (arith, e)))
+    ∙ set-past b (set s j y) i (suc j) x (omega arith)
+
+-- a run of stores before another may come after it
+pub sets-swap : (a b s : List ℕ) (i j : ℕ) → i + length a ≤ j → sets (sets s i a) j b ≡ sets (sets s j b) i a
+sets-swap [] b s i j h = refl
+sets-swap (x ∷ a) b s i j h =
+    sets-swap a b (set s i x) (suc i) j (omega arith)
+    ∙ ap (λ (l : List ℕ). sets l (suc i) a) (set-past b s i j x (omega arith))
+
+-- ---- what is left
+
+-- `rest` stored from `to` on makes the buffer d what `whole` stored from `at` on makes of d₀
+pub record Left (d₀ : List ℕ) (at : ℕ) (whole d : List ℕ) (to : ℕ) (rest : List ℕ) : Type 0 where
+  pub same : length d ≡ length d₀
+  pub is : sets d to rest ≡ sets d₀ at whole
+  pub ends : to + length rest ≡ at + length whole
+
+pub left-none : (d : List ℕ) (at : ℕ) (whole : List ℕ) → Left d at whole d at whole
+left-none d at whole = record { same = refl; is = refl; ends = refl }
+
+pub left-all : {d₀ whole d : List ℕ} {at to : ℕ} → Left d₀ at whole d to [] → d ≡ sets d₀ at whole
+left-all h = h .is
+
+-- the first part of the rest stored
+pub left-more :
+    {d₀ whole d d′ : List ℕ} {at to : ℕ} (x rest : List ℕ) → Left d₀ at whole d to (x ++ rest) → d′ ≡ sets d to x
+    → Left d₀ at whole d′ (to + length x) rest
+left-more {d₀} {whole} {d} {d′} {at} {to} x rest h e =
+    record {
+      same = ap length e ∙ length-sets d to x ∙ h .same;
+      is = ap (λ (l : List ℕ). sets l (to + length x) rest) e ∙ sym (sets-append x rest d to) ∙ h .is;
+      ends = omega (arith, h .ends, length-append x rest);
+    }
+
+-- ---- words of k bytes
+
+module _ (k : ℕ) where
+  -- the words from the i-th on are left
+  pub record Words (d₀ : List ℕ) (at : ℕ) (w d : List ℕ) (i : ℕ) : Type 0 where
+    pub high : i ≤ length w
+    pub left : Left d₀ at (wordBytes k w) d (at + k * i) (wordBytes k (drop i w))
+
+  pub words-none : (d : List ℕ) (at : ℕ) (w : List ℕ) → Words d at w d 0
+  words-none d at w = record { high = omega arith; left = simp (mul-zero, add-zero) (left-none d at (wordBytes k w)) }
+
+  pub words-more :
+      {d₀ w d d′ : List ℕ} {at i : ℕ} → Words d₀ at w d i → i < length w → d′ ≡ sets d (at + k * i) (bytes k (getD w i 0))
+      → Words d₀ at w d′ (i + 1)
+  unfolding wordBytes
+  words-more {d₀} {w} {d} {d′} {at} {i} h l e =
+      let m : at + k * i + k ≡ at + k * suc i = simp (mul-suc, add-assoc) (omega arith) in
+      let x = bytes k (getD w i 0) in
+      let n = left-more x (wordBytes k (drop (suc i) w)) (rw (drop-cons w i 0 l) at (h .left)) e in
+      record { high = omega arith; left = rw add-one (rw (length-bytes k (getD w i 0), m) at n) }
+
+  pub words-all : {d₀ w d : List ℕ} {at i : ℕ} → Words d₀ at w d i → length w ≤ i → d ≡ sets d₀ at (wordBytes k w)
+  unfolding wordBytes
+  words-all {d₀} {w} {d} {at} {i} h l = left-all (rw (drop-of-length-le w l) at (h .left))
+
+-- ---- zeros
+
+-- after i of n zeros
+pub record Zeros (d₀ : List ℕ) (at n : ℕ) (d : List ℕ) (i : ℕ) : Type 0 where
+  pub high : i ≤ n
+  pub left : Left d₀ at (replicate n 0) d (at + i) (replicate (n - i) 0)
+
+pub zeros-none : (d : List ℕ) (at n : ℕ) → Zeros d at n d 0
+zeros-none d at n = record { high = omega arith; left = simp (add-zero, sub-zero) (left-none d at (replicate n 0)) }
+
+pub zeros-more : {d₀ d : List ℕ} {at n i : ℕ} → Zeros d₀ at n d i → i < n → Zeros d₀ at n (set d (at + i) 0) (i + 1)
+zeros-more {d₀} {d} {at} {n} {i} h l =
+    let m : n - i ≡ suc (n - (i + 1)) = omega arith in
+    let t : at + i + 1 ≡ at + (i + 1) = omega arith in
+    record { high = omega arith; left = rw t at (left-more (0 ∷ []) (replicate (n - (i + 1)) 0) (rw m at (h .left)) refl) }
+
+pub zeros-all : {d₀ d : List ℕ} {at n i : ℕ} → Zeros d₀ at n d i → n ≤ i → d ≡ sets d₀ at (replicate n 0)
+zeros-all {d₀} {d} {at} {n} {i} h l =
+    let m : n - i ≡ 0 = omega arith in
+    left-all (rw m at (h .left))
+
+-- ---- a part with its fill
+
+pub padded :
+    (d₀ : List ℕ) {d d′ : List ℕ} (at : ℕ) {m : ℕ} (x : List ℕ) → length x ≡ m → d ≡ sets d₀ at x → d′ ≡ sets d (at + m)
+    (replicate (fill m) 0)
+    → d′ ≡ sets d₀ at (pad16 x)
+unfolding pad16
+padded d₀ {d} {d′} at {m} x e f g =
+    g ∙ rw (f, ← e) (sym (sets-append x (replicate (fill (length x)) 0) d₀ at))
+
+pub pad16-none : (x : List ℕ) → fill (length x) ≡ 0 → pad16 x ≡ x
+unfolding pad16
+pad16-none x e = rw e (append-nil x)
+
+-- the same with the fill as the code computes it
+pub padded-by :
+    (d₀ : List ℕ) {d d′ : List ℕ} (at : ℕ) {m z : ℕ} (x : List ℕ) → length x ≡ m → z ≡ fill m → d ≡ sets d₀ at x
+    → d′ ≡ sets d (at + m) (replicate z 0) → d′ ≡ sets d₀ at (pad16 x)
+padded-by d₀ at x e f g h = padded d₀ at x e g (rw f at h)

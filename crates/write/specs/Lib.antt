@@ -1,0 +1,8 @@
+pub mod Placing
+pub mod Linked
+pub mod Records
+pub mod Names
+pub mod Filling
+pub mod Outcome
+pub mod Working
+pub mod Checks

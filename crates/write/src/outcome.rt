@@ -1,0 +1,168 @@
+// The writer's tests in their order (document 01, "Who can cause a refusal": "Writing a skeleton tests 2, 4, 1, 3, 5").
+ghost use mathlib.Core.Path.{_≡_};
+ghost use lib.ListN.{length};
+ghost use Rattle.format.specs.Rows.{bonesOf};
+ghost use Rattle.blocks.specs.Places.{section};
+ghost use Rattle.write.specs.Placing.{meantFree};
+ghost use Rattle.write.specs.Names.{RowsHere};
+ghost use Rattle.write.specs.Filling.{Held};
+ghost use Rattle.write.specs.Outcome.{outcome, tested, laidOut, Writes};
+ghost use Rattle.write.specs.Working.{tables, roomIn};
+ghost use Rattle.write.specs.Checks.{checkedOf};
+use crate::Free;
+use crate::Written;
+use crate::filling::Sizes;
+use crate::filling::fill_section;
+use crate::names::Measured;
+use crate::names::measure_names;
+use crate::starts::after;
+use crate::starts::place;
+use crate::working::Derived;
+use crate::working::derive_tables;
+use bones::BONE_WORDS;
+use derive::buckets::bucket_count;
+use derive::buckets::entry_count;
+use format::Refusal;
+
+pub enum Checked {
+    // all bones can be written, and their names take this many bytes
+    Names(usize),
+    // 2; 1 for the table of bones; 4
+    Refused(Refusal),
+}
+
+// Tests the bones and their names.
+fn check_bones(bones: &[u32], n: usize, sys: &[u8], gfx: &[u8]) -> Checked
+    ensures answer { λ r. ⌜ checkedOf r ≡ tested (section (now (sys .entry)) (now (gfx .entry))) n (now (bones .entry)) ⌝ }
+{
+    if n > format::MOST {
+        return Checked::Refused(Refusal::TooManyBones);
+    }
+    if bones.len() < BONE_WORDS * n {
+        return Checked::Refused(Refusal::TableTooShort);
+    }
+    match measure_names(bones, n, sys, gfx) {
+        Measured::Bytes(size) => Checked::Names(size),
+        Measured::Bad => Checked::Refused(Refusal::BadName),
+    }
+}
+
+// Tests the child entries and the buffer, and fills it.
+fn lay_out<'a>(
+    bones: &[u32],
+    sys: &'a [u8],
+    gfx: &'a [u8],
+    free: Free,
+    s: Sizes,
+    buckets: &[u32],
+    entries: &[u32],
+    inverse: &[u32],
+    local: &[u32],
+    parents: &[u16],
+    children: &[u16],
+    out: &mut [u8],
+) -> Written
+    requires { ⌜
+        Held s (section (now sys) (now gfx)) (now bones) (now buckets) (now entries) (now inverse) (now local) (now parents)
+        (now children)
+        ⌝ }
+    ensures written { λ r.
+        ⌜
+        Writes
+        (laidOut (section (now (sys .entry)) (now (gfx .entry))) (length (now (out .entry)))
+        (bonesOf (s .bones) (now (bones .entry)))
+        (meantFree free))
+        r (now (out .entry)) (now (out .exit))
+        ⌝ }
+{
+    if s.children > format::MOST {
+        return Written::Refused(Refusal::TooManyChildren);
+    }
+    let at = place(s.buckets, entry_count(s.bones), s.bones, s.names);
+    let size = after(at.children, 2 * s.children);
+    if size > out.len() {
+        return Written::Refused(Refusal::BufferTooShort);
+    }
+    fill_section(
+        out,
+        at,
+        free,
+        s,
+        bones,
+        sys,
+        gfx,
+        buckets,
+        entries,
+        inverse,
+        local,
+        parents,
+        children,
+    );
+    Written::Done(size)
+}
+
+// Writes or refuses; the working tables are left as they may be.
+pub(crate) fn attempt<'a>(
+    bones: &[u32],
+    n: usize,
+    sys: &'a [u8],
+    gfx: &'a [u8],
+    free: Free,
+    buckets: &mut [u32],
+    entries: &mut [u32],
+    inverse: &mut [u32],
+    local: &mut [u32],
+    parents: &mut [u16],
+    children: &mut [u16],
+    pending: &mut [u32],
+    out: &mut [u8],
+) -> Written
+    ensures written { λ r.
+        let x = tables (now (buckets .entry)) (now (entries .entry)) (now (inverse .entry)) (now (local .entry))
+        (now (parents .entry)) (now (children .entry)) (now (pending .entry)) in
+        ⌜
+        Writes
+        (outcome (section (now (sys .entry)) (now (gfx .entry))) (roomIn x) (length (now (out .entry))) n (now (bones .entry))
+        (meantFree free))
+        r (now (out .entry)) (now (out .exit))
+        ⌝ }
+{
+    let size = match check_bones(bones, n, sys, gfx) {
+        Checked::Names(size) => size,
+        Checked::Refused(r) => return Written::Refused(r),
+    };
+    let count = match derive_tables(
+        bones,
+        n,
+        buckets,
+        entries,
+        inverse,
+        local,
+        parents,
+        children,
+        pending,
+    ) {
+        Derived::Children(count) => count,
+        Derived::Refused(r) => return Written::Refused(r),
+    };
+    let s = Sizes {
+        bones: n,
+        buckets: bucket_count(n),
+        children: count,
+        names: size,
+    };
+    lay_out(
+        bones,
+        sys,
+        gfx,
+        free,
+        s,
+        buckets,
+        entries,
+        inverse,
+        local,
+        parents,
+        children,
+        out,
+    )
+}

@@ -1,0 +1,82 @@
+// The writer's working tables: derived from the bones, and cleared.
+ghost use mathlib.Core.Path.{_≡_};
+ghost use Rattle.write.specs.Working.{tables, Derives, Zeroed};
+ghost use Rattle.write.specs.Names.{RowsHere};
+use derive::indices::Indexed;
+use derive::indices::build_indices;
+use derive::tags::Tagged;
+use derive::tags::build_bone_tags;
+use format::Refusal;
+use matrices::matrices::Transformed;
+use matrices::matrices::build_transformations;
+use tables::clear16;
+use tables::clear32;
+
+pub enum Derived {
+    // the number of child entries
+    Children(usize),
+    // 1: a table is too short
+    Refused(Refusal),
+}
+
+// Derives all tables of the first n bones.
+pub(crate) fn derive_tables(
+    bones: &[u32],
+    n: usize,
+    buckets: &mut [u32],
+    entries: &mut [u32],
+    inverse: &mut [u32],
+    local: &mut [u32],
+    parents: &mut [u16],
+    children: &mut [u16],
+    pending: &mut [u32],
+) -> Derived
+    requires { ⌜ RowsHere (now bones) n ⌝ }
+    ensures tables { λ r.
+        ⌜
+        Derives n (now (bones .entry)) r
+        (tables (now (buckets .entry)) (now (entries .entry)) (now (inverse .entry)) (now (local .entry))
+        (now (parents .entry)) (now (children .entry)) (now (pending .entry)))
+        (tables (now (buckets .exit)) (now (entries .exit)) (now (inverse .exit)) (now (local .exit))
+        (now (parents .exit)) (now (children .exit)) (now (pending .exit)))
+        ⌝ }
+{
+    if let Tagged::Refused(r) = build_bone_tags(bones, n, buckets, entries) {
+        return Derived::Refused(r);
+    }
+    if let Transformed::Refused(r) = build_transformations(bones, n, inverse, local) {
+        return Derived::Refused(r);
+    }
+    match build_indices(bones, n, parents, children, pending) {
+        Indexed::Refused(r) => Derived::Refused(r),
+        Indexed::Done(k) => Derived::Children(k),
+    }
+}
+
+// Clears all tables.
+pub(crate) fn clear_tables(
+    buckets: &mut [u32],
+    entries: &mut [u32],
+    inverse: &mut [u32],
+    local: &mut [u32],
+    parents: &mut [u16],
+    children: &mut [u16],
+    pending: &mut [u32],
+)
+    ensures tables { λ _.
+        ⌜
+        Zeroed
+        (tables (now (buckets .entry)) (now (entries .entry)) (now (inverse .entry)) (now (local .entry))
+        (now (parents .entry)) (now (children .entry)) (now (pending .entry)))
+        (tables (now (buckets .exit)) (now (entries .exit)) (now (inverse .exit)) (now (local .exit))
+        (now (parents .exit)) (now (children .exit)) (now (pending .exit)))
+        ⌝ }
+{
+    clear32(buckets);
+    clear32(entries);
+    clear32(inverse);
+    clear32(local);
+    clear16(parents);
+    clear16(children);
+    clear32(pending);
+}
