@@ -2,6 +2,7 @@ pub mod Results
 pub mod Fields
 pub mod Parts
 pub mod Names
+pub mod NamesIgnored
 pub mod Same
 pub mod Computing
 pub mod Cases

@@ -25,7 +25,7 @@ use Rattle.promises.proofs.Each.{each-map}
 use Rattle.promises.proofs.Check.{derived-accepts}
 use Rattle.promises.proofs.Room.{room-decides}
 use Rattle.format.proofs.Parts.{alone}
-use Rattle.promises.proofs.NamesIgnored.{parents-naming, indices-naming}
+use Rattle.format.proofs.NamesIgnored.{parents-naming, indices-naming}
 use Rattle.promises.proofs.LayoutParts.{kidsOf}
 use Rattle.promises.proofs.LayoutSize.{GoodName, GoodNames, layout-small}
 use Rattle.promises.proofs.LayoutFits.{Taken}

@@ -16,7 +16,6 @@ pub mod Room
 pub mod Exact
 pub mod Found
 pub mod MatrixWords
-pub mod NamesIgnored
 pub mod LayoutParts
 pub mod LayoutSize
 pub mod Fresh

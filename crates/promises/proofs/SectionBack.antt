@@ -24,7 +24,7 @@ use Rattle.promises.specs.Meaning.{ChainsFrom, linksRead, Derived}
 use Rattle.promises.proofs.Chains.{length-chains}
 use Rattle.format.proofs.Parts.{alone}
 use Rattle.promises.proofs.MatrixWords.{inverses-words, length-inverses, locals-words, length-locals}
-use Rattle.promises.proofs.NamesIgnored.{tags-naming, parents-naming, indices-naming, inverses-naming, locals-naming}
+use Rattle.format.proofs.NamesIgnored.{tags-naming, parents-naming, indices-naming, inverses-naming, locals-naming}
 use Rattle.promises.proofs.LayoutParts.{kidsOf, chainsOf, startsOf, padded-at, laid}
 use Rattle.promises.proofs.LayoutSize.{bucketCount-le, entryTotal-chains}
 use Rattle.promises.proofs.LayoutFits.{Taken, parents-fit, kids-fit, chainsOf-fit, Ordered, order, headed, headed-fits}

@@ -6,7 +6,6 @@ pub mod Bones
 pub mod Naming
 pub mod Totals
 pub mod Derived
-pub mod NamesIgnored
 pub mod Parts
 pub mod Sections
 pub mod Stages

@@ -29,7 +29,7 @@ use Rattle.write.proofs.Runs.{pad16-none}
 use Rattle.write.proofs.Linked.{length-chainBytes}
 use Rattle.write.proofs.Bones.{length-bone}
 use Rattle.write.proofs.Naming.{good-takes}
-use Rattle.write.proofs.NamesIgnored.{tags-naming, parents-naming, indices-naming, inverses-naming, locals-naming}
+use Rattle.format.proofs.NamesIgnored.{tags-naming, parents-naming, indices-naming, inverses-naming, locals-naming}
 
 -- ---- parts one behind the other
 
