@@ -3,42 +3,38 @@
 use Prim.Native.Nat.{ℕ}
 use mathlib.Core.Path.{_≡_, refl, sym, ap, subst, _∙_}
 use mathlib.Core.Option.{Option, none, some}
-use mathlib.Core.List.{List, [], flatMap}
-use lib.ListN.{length, length-replicate}
+use mathlib.Core.List.{List, flatMap}
+use lib.ListN.{length}
 use Rattle.format.specs.Result.{Res, refused, done, _>>=_}
-use Rattle.format.specs.Refusal.{number}
 use Rattle.format.specs.declared.Refusal.{Refusal}
 use Rattle.format.specs.declared.Refusal.the-variants.{TableTooShort}
 use Rattle.format.specs.Section.{Section, Place}
 use Rattle.format.specs.Bone.{Bone}
-use Rattle.format.specs.Chains.{upFrom}
 use Rattle.format.specs.Records as format
 use Rattle.format.specs.Records.{header}
 use Rattle.format.specs.Rows.{laid, cleared, boneWords, entryWords, tableWords}
-use Rattle.format.specs.Tables.{ListTable, inverseTable, localTable, parentsTable, childrenTable, skeleton}
-use Rattle.format.specs.Tables.{Rows, rows, Pooled, pooled, SkeletonRow, Chained, Lists, Tables, tables, Room, noRows}
+use Rattle.format.specs.Tables.{inverseTable, localTable, parentsTable, childrenTable, skeleton}
+use Rattle.format.specs.Tables.{Rows, rows, pooled, SkeletonRow, Tables, tables, Room, noRows}
 use Rattle.format.specs.Tables.{withPool, withBones, addSkeleton, put}
 use Rattle.format.specs.Read.{Step, readBucketArray, readBonesAt, readList, keepColumns, skeletonRow, readNewSkeleton}
 use Rattle.tables.proofs.Laid.{laid-none}
-use Rattle.blocks.specs.Hashed.{Represents}
 use Rattle.blocks.specs.Pool.{Stores}
 use Rattle.blocks.specs.declared.pool.Stored.{Stored}
 use Rattle.blocks.specs.declared.pool.Stored.the-variants.{Done, Full}
 use Rattle.blocks.proofs.Storing.{after, tables-done, tables-full}
-use Rattle.read_chains.specs.Lent.{entryRoom, HoldsChains}
+use Rattle.read_chains.specs.Lent.{HoldsChains}
 use Rattle.read_chains.proofs.Lent.{holds-none}
-use Rattle.read_bones.specs.Lent.{BonesIn}
 use Rattle.read.specs.Header.{meantHeader, meantHeaded}
-use Rattle.read.specs.Parts.{meantPart, listing, readRows, rowsOnly, RowsLent, RowsLeft, RowsBy, ReadsRows}
-use Rattle.read.specs.Parts.{readPair, PairLent, PairLeft, PairBy, ReadsPair, KeepsPart}
-use Rattle.read.specs.Lent.{Lent, lent, roomOf, clearedAll, laidAll}
+use Rattle.read.specs.Parts.{meantPart, listing, readRows, rowsOnly, RowsLent, RowsBy, ReadsRows}
+use Rattle.read.specs.Parts.{readPair, PairLent, PairBy, ReadsPair, KeepsPart}
+use Rattle.read.specs.Lent.{Lent, lent, roomOf, clearedAll}
 use Rattle.read.specs.Reads.{meantSkeleton, Fills}
 use Rattle.read.specs.declared.Skeleton.{Skeleton}
 use Rattle.read.specs.declared.Filled.the-variants as F
 use Rattle.read.specs.declared.header.Header.{Header}
 use Rattle.read.specs.declared.header.Headed.{Headed}
 use Rattle.read.specs.declared.header.Headed.the-variants as H
-use Rattle.read.specs.declared.parts.Part.{Part}
+use Rattle.read.specs.declared.Part.{Part}
 use Rattle.read.specs.declared.parts.Two.{Two}
 use Rattle.read.specs.declared.parts.Two.the-variants as T
 
@@ -172,7 +168,8 @@ module _ (o₀ b₀ e₀ i₀ l₀ a₀ c₀ p₀ : List ℕ) where
       where
         rows-read : {y : Two} → r₁ ≡ y → Zero → RowsBy room (readRows sec room (meantHeader h) noRows) o₁ b e p₁ y
         rows-read i z =
-            subst (λ (y : Two). RowsBy room (readRows sec room (meantHeader h) noRows) o₁ b e p₁ y) i (m₁ .reads room (rows-lent z))
+            subst (λ (y : Two). RowsBy room (readRows sec room (meantHeader h) noRows) o₁ b e p₁ y) i
+            (m₁ .reads room (rows-lent z))
 
         from-rows :
             {g : Step (Option Rows × Option Rows)} → readRows sec room (meantHeader h) noRows ≡ g →
@@ -186,7 +183,8 @@ module _ (o₀ b₀ e₀ i₀ l₀ a₀ c₀ p₀ : List ℕ) where
 
         module _
             {x₁ y₁ : Part} (d₁ : r₁ ≡ T.Done x₁ y₁) {r₂ : Two} {i l p₂ : List ℕ}
-            (m₂ : ReadsPair sec inverseTable (h .«inverse_at») (h .«bone_count») (h .«local_at») (h .«bone_count») r₂ i₀ i l₀ l p₁ p₂)
+            (m₂ : ReadsPair sec inverseTable (h .«inverse_at») (h .«bone_count») (h .«local_at») (h .«bone_count») r₂
+            i₀ i l₀ l p₁ p₂)
           where
             -- the tables with the chains and the bones
             abbrev t₁ : Zero → Tables
@@ -257,7 +255,8 @@ module _ (o₀ b₀ e₀ i₀ l₀ a₀ c₀ p₀ : List ℕ) where
 
                 abbrev pair₃ : Zero → Step (Option Rows × Option Rows)
                 pair₃ z =
-                    readPair sec room parentsTable (h .«parents_at») (h .«bone_count») (h .«children_at») (h .«child_count») (t₂ z)
+                    readPair sec room parentsTable (h .«parents_at») (h .«bone_count») (h .«children_at») (h .«child_count»)
+                    (t₂ z)
 
                 indices-read : {q : Two} → r₃ ≡ q → (z : Zero) → PairBy parentsTable room (t₂ z) (pair₃ z) a₀ a c₀ c p₃ q
                 indices-read j z =
@@ -310,7 +309,8 @@ module _ (o₀ b₀ e₀ i₀ l₀ a₀ c₀ p₀ : List ℕ) where
                           fills =
                               λ z.
                               from-all z
-                              (tables-full room (withBones (kept z) (t₃ z)) root skeleton (rows 0 1) w (indices-read d₃ z .held) f);
+                              (tables-full room (withBones (kept z) (t₃ z)) root skeleton (rows 0 1) w
+                              (indices-read d₃ z .held) f);
                         }
 
                     pub fill-done :

@@ -15,7 +15,7 @@ use Rattle.format.specs.Section.{Section, array}
 use Rattle.format.specs.Tables.{ListTable, inverseTable, localTable, parentsTable, childrenTable, tableNumber, width, rowWords}
 use Rattle.format.specs.Tables.{Kind, skeleton, buckets, entry, block, bone, string, list, sameKind}
 use Rattle.format.specs.Tables.{Rows, rows, Pooled, pooled, Lists, Tables, Room, roomFor, noRows, withPool}
-use Rattle.format.specs.Tables.{wordsIn, longer, addWords, listAt, find, put, asKind}
+use Rattle.format.specs.Tables.{wordsIn, addWords, listAt, find, put, asKind}
 use Rattle.format.specs.Read.{readBuckets, bucketsFrom, readBucketArray, storeList, readNew, readList}
 use Rattle.format.proofs.Results.{gone}
 use Rattle.blocks.specs.Pool.{enter}

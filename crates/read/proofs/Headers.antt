@@ -1,10 +1,10 @@
 -- The ways out of `header_in` and `header_at`: the header that 98 bytes hold. Assumes nothing.
 use Prim.Native.Nat.{ℕ, _+_, _-_}
 use native.Mathlib.Omega.{arith}
-use mathlib.Core.Path.{_≡_, refl, sym, ap, _∙_}
+use mathlib.Core.Path.{_≡_, refl, ap, _∙_}
 use mathlib.Core.List.{List}
 use lib.ListN.{length, take, drop}
-use Rattle.format.specs.Result.{Res, done}
+use Rattle.format.specs.Result.{done}
 use Rattle.format.specs.declared.Refusal.{Refusal}
 use Rattle.format.specs.Field.{orZero, field}
 use Rattle.format.specs.Bone.{words4}
@@ -49,7 +49,8 @@ cut-is : (o : ℕ) (half : List ℕ) → cut o half ≡ take 98 (drop o half)
 cut-is o half = let k : o + 98 - o ≡ 98 = omega arith in rw k
 
 module _ (sec : Section) (root : ℕ) where
-  header-from : (b : List ℕ) (h : Header) → part sec root 98 ≡ done b → meantHeader h ≡ headerIn b → meantHeaded (At h) ≡ header sec root
+  header-from :
+      (b : List ℕ) (h : Header) → part sec root 98 ≡ done b → meantHeader h ≡ headerIn b → meantHeaded (At h) ≡ header sec root
   unfolding header
   header-from b h e m =
       rw e (ap (λ (x : format.Header). done x) (m ∙ header-of-bytes b (part-stands sec root 98 b e .0)))

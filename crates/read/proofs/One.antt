@@ -2,17 +2,16 @@
 use Prim.Native.Nat.{ℕ, _-_}
 use native.Mathlib.Omega.{arith}
 use mathlib.Core.Path.{_≡_, refl, sym, ap, subst, _∙_}
-use mathlib.Core.Option.{Option, none, some}
+use mathlib.Core.Option.{none, some}
 use mathlib.Core.List.{List, [], _∷_}
 use lib.ListN.{length}
-use Rattle.format.specs.Result.{Res, done}
+use Rattle.format.specs.Result.{done}
 use Rattle.format.specs.declared.Refusal.{Refusal}
 use Rattle.format.specs.Section.{Section}
 use Rattle.format.specs.Chains.{upFrom}
 use Rattle.format.specs.Rows.{laid}
-use Rattle.format.specs.Tables.{ListTable, Rows, rows, Tables, Room, noRows, wordsIn}
+use Rattle.format.specs.Tables.{ListTable, rows, Tables, Room, wordsIn}
 use Rattle.format.specs.Read.{readList}
-use Rattle.read_chains.specs.Lent.{HoldsChains, Comes}
 use Rattle.read_chains.specs.Arrays.{ReadsBuckets}
 use Rattle.read_chains.specs.declared.Buckets.{Buckets}
 use Rattle.read_chains.specs.declared.Buckets.the-variants as B
@@ -29,12 +28,12 @@ use Rattle.read_lists.specs.Reads.{ReadsList}
 use Rattle.read_lists.specs.declared.Listed.{Listed}
 use Rattle.read_lists.specs.declared.Listed.the-variants as L
 use Rattle.read_lists.proofs.Outcomes.{Gives, list-refused, list-absent, list-at}
-use Rattle.read_lists.proofs.Frames.{Framed, list-framed}
-use Rattle.read.specs.Parts.{meantPart, Fits, ReadsChains, ReadsBonesIn, listing, ListLeft, ReadsListIn, KeepsPart}
-use Rattle.read.specs.declared.parts.Part.{Part}
-use Rattle.read.specs.declared.parts.Part.the-variants.{Absent, Of}
+use Rattle.read_lists.proofs.Frames.{list-framed}
+use Rattle.read.specs.Parts.{meantPart, Fits, ReadsChains, ReadsBonesIn, ListLeft, ReadsListIn, KeepsPart}
+use Rattle.read.specs.declared.Part.{Part}
+use Rattle.read.specs.declared.Part.the-variants.{Absent, Of}
 use Rattle.read.specs.declared.parts.Got.the-variants as G
-use Rattle.read.proofs.Firsts.{array-first, First, list-first}
+use Rattle.read.proofs.Firsts.{array-first, list-first}
 
 -- ---- buckets with chains
 
@@ -152,7 +151,8 @@ module _
           reads =
               λ room u h.
               let g = list-at (m .reads h) i in
-              let d = list-first sec room l u (no-words (wordsIn l u.lists) (h .size)) va n (rows f c) (g .after) (h .lists) (g .is) in
+              let none = no-words (wordsIn l u.lists) (h .size) in
+              let d = list-first sec room l u none va n (rows f c) (g .after) (h .lists) (g .is) in
               let v : Gives l (room .pool) (readList sec room l va n u) (meantPart (Of c)) k t₀ t p =
               record {
                 after = g .after;

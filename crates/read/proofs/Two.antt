@@ -2,17 +2,16 @@
 use Prim.Native.Nat.{ℕ}
 use native.Mathlib.Omega.{arith}
 use mathlib.Core.Path.{_≡_, refl, sym, ap, subst, _∙_}
-use mathlib.Core.Option.{Option, none, some}
+use mathlib.Core.Option.{none, some}
 use mathlib.Core.List.{List, [], _++_}
 use lib.ListN.{length}
-use Rattle.format.specs.Result.{Res, done, _>>=_}
-use Rattle.format.specs.Refusal.{number}
+use Rattle.format.specs.Result.{done}
 use Rattle.format.specs.declared.Refusal.{Refusal}
 use Rattle.format.specs.Section.{Section}
 use Rattle.format.specs.Chains.{upFrom}
 use Rattle.format.specs.Rows.{laid, cleared}
-use Rattle.format.specs.Tables.{ListTable, inverseTable, localTable, parentsTable, childrenTable, kindNumber, entry, block}
-use Rattle.format.specs.Tables.{Rows, Pooled, Lists, SkeletonRow, Tables, tables, Room, noRows, wordsIn, longer, find}
+use Rattle.format.specs.Tables.{ListTable, inverseTable, localTable, parentsTable, childrenTable}
+use Rattle.format.specs.Tables.{Lists, SkeletonRow, Tables, tables, Room, noRows, wordsIn, longer, find}
 use Rattle.format.specs.Read.{readBucketArray, readBonesAt, readList}
 use Rattle.tables.proofs.Laid.{laid-none}
 use Rattle.read_chains.proofs.Kept.{array-kept}
@@ -23,12 +22,11 @@ use Rattle.read_lists.specs.Lists.{twin, ListsStand}
 use Rattle.read_lists.specs.Reads as lists
 use Rattle.read_lists.proofs.Standing.{wordsIn-longer, lists-stand-none}
 use Rattle.read_lists.proofs.Others.{bucket-array-spared, bones-at-spared}
-use Rattle.read.specs.Header.{meantHeader}
-use Rattle.read.specs.Parts.{meantPart, Fits, ChainsLeft, ChainsBy, ReadsChains, NoBlock, BonesLeft, BonesBy, ReadsBonesIn}
-use Rattle.read.specs.Parts.{listing, ListLeft, ListBy, ReadsListIn, readRows, rowsOnly, RowsLent, ReadsRows}
+use Rattle.read.specs.Parts.{meantPart, Fits, ChainsLeft, ChainsBy, ReadsChains, NoBlock, BonesBy, ReadsBonesIn}
+use Rattle.read.specs.Parts.{listing, ListBy, ReadsListIn, readRows, rowsOnly, RowsLent, ReadsRows}
 use Rattle.read.specs.Parts.{readPair, PairLent, ReadsPair}
 use Rattle.read.specs.declared.header.Header.{Header}
-use Rattle.read.specs.declared.parts.Part.{Part}
+use Rattle.read.specs.declared.Part.{Part}
 use Rattle.read.specs.declared.parts.Got.{Got}
 use Rattle.read.specs.declared.parts.Got.the-variants as G
 use Rattle.read.specs.declared.parts.Two.the-variants as T
@@ -36,7 +34,9 @@ use Rattle.read.specs.declared.parts.Two.the-variants as T
 -- ---- from the chains to the bones
 
 -- only lists and skeletons are told apart here
-rows-as : (t : Tables) {l : Lists} {s : List SkeletonRow} → t.lists ≡ l → t.skeletons ≡ s → (k : Lists → List SkeletonRow → Tables) →
+rows-as :
+    (t : Tables) {l : Lists} {s : List SkeletonRow} → t.lists ≡ l → t.skeletons ≡ s →
+    (k : Lists → List SkeletonRow → Tables) →
     k t.lists t.skeletons ≡ k l s
 rows-as t a b k = rw (a, b) refl
 
@@ -105,7 +105,8 @@ module _
             let v = chains i room l in
             subst
             (λ (y : Got). BonesBy room (v .t) (readBonesAt sec room (h .«bones_at») (h .«bone_count») (v .t)) o p y) j
-            (k .reads room (v .t) (bones-before sec (h .«buckets_at») (h .«bucket_count») v (h .«bones_at») (l .bones)) (in-order sec (h .«buckets_at») (h .«bucket_count») v) (no-block sec (h .«buckets_at») (h .«bucket_count») v))
+            (k .reads room (v .t) (bones-before sec (h .«buckets_at») (h .«bucket_count») v (h .«bones_at») (l .bones))
+            (in-order sec (h .«buckets_at») (h .«bucket_count») v) (no-block sec (h .«buckets_at») (h .«bucket_count») v))
 
         pub rows-no-bones : {y : Refusal} → d ≡ G.Refused y → ReadsRows sec h (T.Refused y) o₀ o b₀ b e₀ e p₀ p
         unfolding readRows
@@ -121,7 +122,8 @@ module _
                   let w = bones j room l in
                   let after = leaving (v .t) (w .bones) (upFrom 0 (length (w .bones))) (w .pool) in
                   let same : after ≡ rowsOnly (v .t .chained) (w .bones) (w .pool) =
-                  rows-as (v .t) (no-lists sec (h .«buckets_at») (h .«bucket_count») v) (no-skeletons sec (h .«buckets_at») (h .«bucket_count») v)
+                  rows-as (v .t) (no-lists sec (h .«buckets_at») (h .«bucket_count») v)
+                  (no-skeletons sec (h .«buckets_at») (h .«bucket_count») v)
                   (λ a s. tables (v .t .chained) (w .bones) (upFrom 0 (length (w .bones))) a s (w .pool)) in
                   let spared = bones-at-spared sec room (h .«bones_at») (h .«bone_count») (v .t) after (meantPart y) (w .is) in
                   record {

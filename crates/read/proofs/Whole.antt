@@ -4,12 +4,12 @@ use mathlib.Core.Path.{_≡_, refl, sym, ap, subst, _∙_}
 use mathlib.Core.Option.{Option, some}
 use mathlib.Core.List.{List}
 use lib.ListN.{length, length-replicate}
-use Rattle.format.specs.Result.{Res, refused, done, _>>=_}
+use Rattle.format.specs.Result.{refused, done, _>>=_}
 use Rattle.format.specs.Refusal.{number}
 use Rattle.format.specs.declared.Refusal.{Refusal}
 use Rattle.format.specs.Section.{Section}
 use Rattle.format.specs.Rows.{cleared, tableWords, TableWords}
-use Rattle.format.specs.Tables.{SkeletonRow, Tables, Room, noRows, find, asKind}
+use Rattle.format.specs.Tables.{SkeletonRow, Room, noRows, find, asKind}
 use Rattle.format.specs.Read.{Step, readNewSkeleton, skeletonFrom, readSkeleton}
 use Rattle.read.specs.Lent.{Lent, lent, roomOf, clearedAll, laidAll}
 use Rattle.read.specs.Reads.{FilledBy, Fills, meantRead, answerOf, leaves, Reads}
@@ -107,7 +107,8 @@ module _ (sec : Section) (root : ℕ) (t₀ : Lent) where
           let q : p ≡ cleared (length (t₀ .pool)) = l ∙ ap cleared (s ∙ sized .pool) in
           gives (whole (done (_, d .u))) (Read x) t₀ _
           (reading-new sec (roomOf t₀) root n ∙ ap whole (d .is)) refl
-          (with-pool (tableWords (d .u)) (d .tables) p ∙ same-laid sized (tableWords (d .u)) p ∙ ap (λ (y : List ℕ). laidAll (tableWords (d .u)) y t₀) q)
+          (with-pool (tableWords (d .u)) (d .tables) p ∙ same-laid sized (tableWords (d .u)) p
+          ∙ ap (λ (y : List ℕ). laidAll (tableWords (d .u)) y t₀) q)
         where
           with-pool :
               (w : TableWords) → t₂ ≡ laidAll w (t₂ .pool) t₁ → (q : List ℕ) →

@@ -1,4 +1,5 @@
--- The header of a skeleton as the code has it, and the format's header that it stands for (document 01, "Records"). Definitions only.
+-- The header of a skeleton as the code has it, and the format's header that it stands for (document 01, "Records").
+-- Definitions only.
 use Prim.Native.Nat.{ℕ}
 use mathlib.Core.List.{List}
 use Rattle.format.specs.Result.{Res, refused, done}

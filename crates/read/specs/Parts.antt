@@ -5,7 +5,7 @@ use mathlib.Core.Path.{_≡_}
 use mathlib.Core.Option.{Option, none, some}
 use mathlib.Core.List.{List, [], flatMap}
 use lib.ListN.{length}
-use Rattle.format.specs.Result.{Res, refused, done, _>>=_}
+use Rattle.format.specs.Result.{refused, done, _>>=_}
 use Rattle.format.specs.Refusal.{number}
 use Rattle.format.specs.Section.{Section, Place}
 use Rattle.format.specs.Bone.{Bone}
@@ -23,8 +23,8 @@ use Rattle.read_lists.specs.Lists.{twin, rowsIn, ListsStand}
 use Rattle.read_lists.specs.Reads as lists
 use Rattle.read.specs.Header.{meantHeader}
 use Rattle.read.specs.declared.header.Header.{Header}
-use Rattle.read.specs.declared.parts.Part.{Part}
-use Rattle.read.specs.declared.parts.Part.the-variants.{Absent, Of}
+use Rattle.read.specs.declared.Part.{Part}
+use Rattle.read.specs.declared.Part.the-variants.{Absent, Of}
 use Rattle.read.specs.declared.parts.Got.{Got}
 use Rattle.read.specs.declared.parts.Got.the-variants as G
 use Rattle.read.specs.declared.parts.Two.{Two}

@@ -6,7 +6,6 @@ ghost use Rattle.blocks.specs.Places.{section};
 ghost use Rattle.read.specs.Lent.{lent, clearedAll, roomOf};
 ghost use Rattle.read.specs.Reads.{Fills, Reads};
 use crate::header::Headed;
-use crate::parts::Part;
 use crate::parts::Two;
 use blocks::kinds::Kind;
 use blocks::pool;
@@ -15,7 +14,13 @@ use bones::Words4;
 use format::Refusal;
 
 pub mod header; // the fields of the skeleton's record
-pub mod parts; // the parts, one after another
+mod parts; // the parts, one after another
+
+// Whether a part stands, and how long it is: in rows, and in words of a list of matrices.
+pub enum Part {
+    Absent,
+    Of(usize),
+}
 
 // A skeleton that was read: the fields that stay, and which parts stand. Each part's rows are the first of its table.
 pub struct Skeleton {
@@ -151,9 +156,10 @@ fn fill<'a>(
 
 // Reads the skeleton at a root address of a section, the system and the graphics bytes, with an empty pool. Then the tables hold
 // the rows read and zeros behind them: bones 21 words a row, buckets one, entries three (tag, position, link), matrices sixteen,
-// parents and children one. Root 0 gives none. Refusals, the first in reading order: 10 and 11 for the 98 bytes of the record, then
-// those of buckets and chains, bones and names (13 for a bones pointer from 1 to 15), inverse, local, parents, children, and 1 where
-// the pool has no row for the skeleton. After none and after a refusal every table is zero; the pool is zero after every call.
+// parents and children one. Root 0 gives none. Refusals, the first in reading order: 10 and 11 for the 98 bytes of the record,
+// then those of buckets and chains, bones and names (13 for a bones pointer from 1 to 15), inverse, local, parents, children (12,
+// 10 and 11 for an address, 1 where a table has no row left), and 1 where the pool has no row for the skeleton. After none and
+// after a refusal every table is zero; the pool is zero after every call.
 pub fn read<'a>(
     sys: &'a [u8],
     gfx: &'a [u8],

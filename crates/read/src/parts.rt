@@ -1,10 +1,11 @@
-// The parts of a skeleton, each read into its own tables (document 01, "Reading and writing a skeleton"): buckets with chains, bones
-// with names, the two lists of matrices, parents and children. These are the steps of one reading: every table is zero before it, and
-// of a refusal nothing is said of the tables.
+// The parts of a skeleton, each read into its own tables (document 01, "Reading and writing a skeleton"): buckets with chains,
+// bones with names, the two lists of matrices, parents and children. These are the steps of one reading: every table is zero
+// before it, and of a refusal nothing is said of the tables.
 ghost use Rattle.blocks.specs.Places.{section};
 ghost use Rattle.format.specs.Tables.{inverseTable, parentsTable};
 ghost use Rattle.read_lists.specs.Lists.{matrixTable, indexTable};
 ghost use Rattle.read.specs.Parts.{ReadsChains, ReadsBonesIn, ReadsListIn, ReadsRows, ReadsPair, KeepsPart};
+use crate::Part;
 use crate::header::Header;
 use format::Refusal;
 use read_bones::Block;
@@ -13,12 +14,6 @@ use read_chains::Buckets;
 use read_lists::Indices;
 use read_lists::Listed;
 use read_lists::Matrices;
-
-// Whether a part stands, and how long it is: in rows, and in words of a list of matrices.
-pub enum Part {
-    Absent,
-    Of(usize),
-}
 
 // What a part comes to.
 pub enum Got {
@@ -161,9 +156,9 @@ pub fn read_matrices(
     local: &mut [u32],
     pool: &mut [u64],
 ) -> Two
-    ensures tables { λ r. ⌜ ReadsPair (section (now (sys .entry)) (now (gfx .entry))) inverseTable «inverse_at» n «local_at» n r
-        (now (inverse .entry)) (now (inverse .exit)) (now (local .entry)) (now (local .exit))
-        (now (pool .entry)) (now (pool .exit)) ⌝ }
+    ensures tables { λ r. ⌜ ReadsPair (section (now (sys .entry)) (now (gfx .entry)))
+        inverseTable «inverse_at» n «local_at» n r (now (inverse .entry)) (now (inverse .exit))
+        (now (local .entry)) (now (local .exit)) (now (pool .entry)) (now (pool .exit)) ⌝ }
 {
     let i = matrices_in(
         sys,
@@ -205,9 +200,9 @@ pub fn read_indices(
     children: &mut [u16],
     pool: &mut [u64],
 ) -> Two
-    ensures tables { λ r. ⌜ ReadsPair (section (now (sys .entry)) (now (gfx .entry))) parentsTable «parents_at» n «children_at» m r
-        (now (parents .entry)) (now (parents .exit)) (now (children .entry)) (now (children .exit))
-        (now (pool .entry)) (now (pool .exit)) ⌝ }
+    ensures tables { λ r. ⌜ ReadsPair (section (now (sys .entry)) (now (gfx .entry)))
+        parentsTable «parents_at» n «children_at» m r (now (parents .entry)) (now (parents .exit))
+        (now (children .entry)) (now (children .exit)) (now (pool .entry)) (now (pool .exit)) ⌝ }
 {
     let p = indices_in(
         sys,

@@ -1,77 +1,56 @@
+-- `read::clear_all` meets its contract: eight tables cleared. Assumes nothing.
 use borrow.Author.Needs.{needs}
 use Rattle.read.proofs.clear_all.Statement.{statement}
 use Rattle.read.proofs.clear_all.Tie as tie
-use Rattle.read.proofs.clear_all.Reads as reads
-use Rattle.read.proofs.clear_all.Lts as lts
-use Rattle.tables.proofs.clear16.Reads as clear16-reads
-use Rattle.tables.proofs.clear32.Reads as clear32-reads
-use Rattle.tables.proofs.clear64.Reads as clear64-reads
 
--- src/lib.rt:67:5
 clear32-requires : tie.Need-clear32-requires
 clear32-requires c κs = search needs
 
--- src/lib.rt:68:5
 clear32-requires-2 : tie.Need-clear32-requires-2
 clear32-requires-2 c κs = search needs
 
--- src/lib.rt:69:5
 clear32-requires-3 : tie.Need-clear32-requires-3
 clear32-requires-3 c κs = search needs
 
--- src/lib.rt:70:5
 clear32-requires-4 : tie.Need-clear32-requires-4
 clear32-requires-4 c κs = search needs
 
--- src/lib.rt:71:5
 clear32-requires-5 : tie.Need-clear32-requires-5
 clear32-requires-5 c κs = search needs
 
--- src/lib.rt:72:5
 clear16-requires : tie.Need-clear16-requires
 clear16-requires c κs = search needs
 
--- src/lib.rt:73:5
 clear16-requires-2 : tie.Need-clear16-requires-2
 clear16-requires-2 c κs = search needs
 
--- src/lib.rt:74:5
 clear64-requires : tie.Need-clear64-requires
 clear64-requires c κs = search needs
 
--- src/lib.rt:52:1
 same-length : tie.Need-same-length
 same-length c = search needs
 
--- src/lib.rt:52:1
 same-length-2 : tie.Need-same-length-2
 same-length-2 c = search needs
 
--- src/lib.rt:52:1
 same-length-3 : tie.Need-same-length-3
 same-length-3 c = search needs
 
--- src/lib.rt:52:1
 same-length-4 : tie.Need-same-length-4
 same-length-4 c = search needs
 
--- src/lib.rt:52:1
 same-length-5 : tie.Need-same-length-5
 same-length-5 c = search needs
 
--- src/lib.rt:52:1
 same-length-6 : tie.Need-same-length-6
 same-length-6 c = search needs
 
--- src/lib.rt:52:1
 same-length-7 : tie.Need-same-length-7
 same-length-7 c = search needs
 
--- src/lib.rt:52:1
 same-length-8 : tie.Need-same-length-8
 same-length-8 c = search needs
 
--- src/lib.rt:52:1
 returns : tie.Need-returns
 returns c = cc
 

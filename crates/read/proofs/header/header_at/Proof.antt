@@ -1,83 +1,63 @@
+-- `header::header_at` meets its contract: the half that holds the header, or a refusal. Assumes nothing.
 use borrow.Author.Needs.{needs}
 use native.Mathlib.Omega.{arith}
 use Rattle.blocks.proofs.Standing.{system-stands, graphics-stands}
 use Rattle.read.proofs.Headers.{header-system, header-graphics, header-refused}
 use Rattle.read.proofs.header.header_at.Statement.{statement}
 use Rattle.read.proofs.header.header_at.Tie as tie
-use Rattle.read.proofs.header.header_at.Reads as reads
-use Rattle.read.proofs.header.header_at.Lts as lts
-use Rattle.blocks.proofs.places.locate.Reads as locate-reads
-use Rattle.read.proofs.header.header_in.Reads as header-in-reads
 
--- src/header.rt:68:11
 locate-requires : tie.Need-locate-requires
 locate-requires c κs = search needs
 
--- src/header.rt:69:25
 enum-known-o : tie.Need-enum-known-o
 enum-known-o c = search needs
 
--- src/header.rt:70:21
 add-e : tie.Need-add-e
 add-e c = omega (arith, system-stands (c .before .before .before .locate .ensures) (c .before .o .given .1))
 
--- src/header.rt:71:34
 sub-header-in : tie.Need-sub-header-in
 sub-header-in c = search needs
 
--- src/header.rt:71:34
 part-header-in-start : tie.Need-part-header-in-start
 part-header-in-start c = search needs
 
--- src/header.rt:71:34
 part-header-in-end : tie.Need-part-header-in-end
 part-header-in-end c = omega (arith, system-stands (c .before .before .before .locate .ensures) (c .before .o .given .1))
 
--- src/header.rt:71:24
 header-in-requires : tie.Need-header-in-requires
 header-in-requires c κs = search needs
 
--- src/header.rt:73:27
 enum-known-o-2 : tie.Need-enum-known-o-2
 enum-known-o-2 c = search needs
 
--- src/header.rt:74:21
 add-e-2 : tie.Need-add-e-2
 add-e-2 c = omega (arith, graphics-stands (c .before .before .before .locate .ensures) (c .before .o2 .given .1))
 
--- src/header.rt:75:34
 sub-header-in-2 : tie.Need-sub-header-in-2
 sub-header-in-2 c = search needs
 
--- src/header.rt:75:34
 part-header-in-start-2 : tie.Need-part-header-in-start-2
 part-header-in-start-2 c = search needs
 
--- src/header.rt:75:34
 part-header-in-end-2 : tie.Need-part-header-in-end-2
 part-header-in-end-2 c = omega (arith, graphics-stands (c .before .before .before .locate .ensures) (c .before .o2 .given .1))
 
--- src/header.rt:75:24
 header-in-requires-2 : tie.Need-header-in-requires-2
 header-in-requires-2 c κs = search needs
 
--- src/header.rt:77:26
 enum-known-r : tie.Need-enum-known-r
 enum-known-r c = search needs
 
--- src/header.rt:65:1
 returns : tie.Need-returns
 returns c =
-    header-system _ _ (c .before .before .before .before .before .locate .ensures) _ (c .before .before .before .o .given .1)
-    (c .header-in .ensures)
+    let o = c .before .before .before in
+    header-system _ _ (o .before .before .locate .ensures) _ (o .o .given .1) (c .header-in .ensures)
 
--- src/header.rt:65:1
 returns-2 : tie.Need-returns-2
 returns-2 c =
-    header-graphics _ _ (c .before .before .before .before .before .locate .ensures) _ (c .before .before .before .o2 .given .1)
-    (c .header-in2 .ensures)
+    let o = c .before .before .before in
+    header-graphics _ _ (o .before .before .locate .ensures) _ (o .o2 .given .1) (c .header-in2 .ensures)
 
--- src/header.rt:65:1
 returns-3 : tie.Need-returns-3
 returns-3 c = header-refused _ _ (c .before .before .before .locate .ensures) (c .before .r .given .1)
 

@@ -1,74 +1,62 @@
+-- `parts::chains_in` meets its contract: the three answers of `read_buckets`. Assumes nothing.
 use borrow.Author.Needs.{needs}
 use Rattle.read.proofs.One.{chains-absent, chains-at, chains-refused}
 use Rattle.read.proofs.parts.chains_in.Statement.{statement}
 use Rattle.read.proofs.parts.chains_in.Tie as tie
-use Rattle.read.proofs.parts.chains_in.Reads as reads
-use Rattle.read.proofs.parts.chains_in.Lts as lts
-use Rattle.read_chains.proofs.read_buckets.Reads as read-buckets-reads
 
--- src/parts.rt:51:11
 read-buckets-requires : tie.Need-read-buckets-requires
 read-buckets-requires c κs = search needs
 
--- src/parts.rt:52:38
 enum-told : tie.Need-enum-told
 enum-told c = search needs
 
--- src/parts.rt:53:24
 enum-known-count : tie.Need-enum-known-count
 enum-known-count c = search needs
 
--- src/parts.rt:54:26
 enum-known-r : tie.Need-enum-known-r
 enum-known-r c = search needs
 
--- src/parts.rt:38:1
 same-length : tie.Need-same-length
 same-length c = search needs
 
--- src/parts.rt:38:1
 same-length-2 : tie.Need-same-length-2
 same-length-2 c = search needs
 
--- src/parts.rt:38:1
 same-length-3 : tie.Need-same-length-3
 same-length-3 c = search needs
 
--- src/parts.rt:38:1
 returns : tie.Need-returns
-returns c = chains-absent (c .before .before .before .before .before .before .before .before .read-buckets .ensures) (c .enum-told .given .1)
+returns c =
+    let m = c .before .before .before .before .before .before .before .before in
+    chains-absent (m .read-buckets .ensures) (c .enum-told .given .1)
 
--- src/parts.rt:38:1
 same-length-4 : tie.Need-same-length-4
 same-length-4 c = search needs
 
--- src/parts.rt:38:1
 same-length-5 : tie.Need-same-length-5
 same-length-5 c = search needs
 
--- src/parts.rt:38:1
 same-length-6 : tie.Need-same-length-6
 same-length-6 c = search needs
 
--- src/parts.rt:38:1
 returns-2 : tie.Need-returns-2
-returns-2 c = chains-at (c .before .before .before .before .before .before .before .before .before .read-buckets .ensures) (c .before .count .given .1)
+returns-2 c =
+    let m = c .before .before .before .before .before .before .before .before .before in
+    chains-at (m .read-buckets .ensures) (c .before .count .given .1)
 
--- src/parts.rt:38:1
 same-length-7 : tie.Need-same-length-7
 same-length-7 c = search needs
 
--- src/parts.rt:38:1
 same-length-8 : tie.Need-same-length-8
 same-length-8 c = search needs
 
--- src/parts.rt:38:1
 same-length-9 : tie.Need-same-length-9
 same-length-9 c = search needs
 
--- src/parts.rt:38:1
 returns-3 : tie.Need-returns-3
-returns-3 c = chains-refused (c .before .before .before .before .before .before .before .before .before .read-buckets .ensures) (c .before .r .given .1)
+returns-3 c =
+    let m = c .before .before .before .before .before .before .before .before .before in
+    chains-refused (m .read-buckets .ensures) (c .before .r .given .1)
 
 pub chains-in-spec : {M : Type 1} → statement M
 chains-in-spec =

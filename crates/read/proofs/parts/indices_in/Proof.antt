@@ -1,62 +1,53 @@
+-- `parts::indices_in` meets its contract: the three answers of `read_indices`. Assumes nothing.
 use borrow.Author.Needs.{needs}
 use Rattle.read.proofs.One.{list-none, list-some, list-lost}
 use Rattle.read.proofs.parts.indices_in.Statement.{statement}
 use Rattle.read.proofs.parts.indices_in.Tie as tie
-use Rattle.read.proofs.parts.indices_in.Reads as reads
-use Rattle.read.proofs.parts.indices_in.Lts as lts
-use Rattle.read_lists.proofs.read_indices.Reads as read-indices-reads
 
--- src/parts.rt:112:11
 read-indices-requires : tie.Need-read-indices-requires
 read-indices-requires c κs = search needs
 
--- src/parts.rt:113:37
 enum-told : tie.Need-enum-told
 enum-told c = search needs
 
--- src/parts.rt:114:23
 enum-known-count : tie.Need-enum-known-count
 enum-known-count c = search needs
 
--- src/parts.rt:115:25
 enum-known-r : tie.Need-enum-known-r
 enum-known-r c = search needs
 
--- src/parts.rt:99:1
 same-length : tie.Need-same-length
 same-length c = search needs
 
--- src/parts.rt:99:1
 same-length-2 : tie.Need-same-length-2
 same-length-2 c = search needs
 
--- src/parts.rt:99:1
 returns : tie.Need-returns
-returns c = list-none (c .before .before .before .before .before .before .read-indices .ensures) (c .enum-told .given .1)
+returns c =
+    let m = c .before .before .before .before .before .before in
+    list-none (m .read-indices .ensures) (c .enum-told .given .1)
 
--- src/parts.rt:99:1
 same-length-3 : tie.Need-same-length-3
 same-length-3 c = search needs
 
--- src/parts.rt:99:1
 same-length-4 : tie.Need-same-length-4
 same-length-4 c = search needs
 
--- src/parts.rt:99:1
 returns-2 : tie.Need-returns-2
-returns-2 c = list-some (c .before .before .before .before .before .before .before .read-indices .ensures) (c .before .count .given .1)
+returns-2 c =
+    let m = c .before .before .before .before .before .before .before in
+    list-some (m .read-indices .ensures) (c .before .count .given .1)
 
--- src/parts.rt:99:1
 same-length-5 : tie.Need-same-length-5
 same-length-5 c = search needs
 
--- src/parts.rt:99:1
 same-length-6 : tie.Need-same-length-6
 same-length-6 c = search needs
 
--- src/parts.rt:99:1
 returns-3 : tie.Need-returns-3
-returns-3 c = list-lost (c .before .before .before .before .before .before .before .read-indices .ensures) (c .before .r .given .1)
+returns-3 c =
+    let m = c .before .before .before .before .before .before .before in
+    list-lost (m .read-indices .ensures) (c .before .r .given .1)
 
 pub indices-in-spec : {M : Type 1} → statement M
 indices-in-spec =

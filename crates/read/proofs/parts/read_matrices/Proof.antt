@@ -1,3 +1,4 @@
+-- `parts::read_matrices` meets its contract: the inverse matrices, then the local ones. Assumes nothing.
 use borrow.Author.Needs.{needs}
 use Rattle.read.proofs.Two.{pair-no-first, pair-no-second, pair-done}
 use Rattle.read.proofs.parts.read_matrices.Statement.{statement}
@@ -31,7 +32,9 @@ same-length-3 : tie.Need-same-length-3
 same-length-3 c = search needs
 
 returns : tie.Need-returns
-returns c = pair-no-first (c .before .before .before .before .before .before .before .matrices-in .ensures) _ _ (c .before .i .given .1)
+returns c =
+    let m = c .before .before .before .before .before .before .before in
+    pair-no-first (m .matrices-in .ensures) _ _ (c .before .i .given .1)
 
 same-length-4 : tie.Need-same-length-4
 same-length-4 c = search needs
@@ -44,9 +47,11 @@ same-length-6 c = search needs
 
 returns-2 : tie.Need-returns-2
 returns-2 c =
-    let k = c .before .before .before .before .before .before .before .before .before .before .before .before in
+    let d = c .before .before .before .before .before .before .before in
+    let k = d .before .before .before .before .before in
     let m = k .before .before .before .before .before .before .matrices-in in
-    pair-no-second (m .ensures) _ _ (k .i2 .given .1) (m .kept .1 .1 .1 .1 .1 .0) (c .before .before .before .before .before .before .before .matrices-in2 .ensures) (c .before .r .given .1)
+    pair-no-second (m .ensures) _ _ (k .i2 .given .1) (m .kept .1 .1 .1 .1 .1 .0) (d .matrices-in2 .ensures)
+    (c .before .r .given .1)
 
 same-length-7 : tie.Need-same-length-7
 same-length-7 c = search needs
@@ -59,9 +64,10 @@ same-length-9 c = search needs
 
 returns-3 : tie.Need-returns-3
 returns-3 c =
-    let k = c .before .before .before .before .before .before .before .before .before .before .before .before in
+    let d = c .before .before .before .before .before .before .before in
+    let k = d .before .before .before .before .before in
     let m = k .before .before .before .before .before .before .matrices-in in
-    pair-done (m .ensures) _ _ (k .i2 .given .1) (m .kept .1 .1 .1 .1 .1 .0) (c .before .before .before .before .before .before .before .matrices-in2 .ensures) (c .before .y .given .1)
+    pair-done (m .ensures) _ _ (k .i2 .given .1) (m .kept .1 .1 .1 .1 .1 .0) (d .matrices-in2 .ensures) (c .before .y .given .1)
 
 pub read-matrices-spec : {M : Type 1} → statement M
 read-matrices-spec =
