@@ -54,6 +54,10 @@ fn reading_controls(base: &Section) {
     });
     control(base, "children_past_end", "the child count is 255", Read(11), |c| c.set_count(s::CHILD_COUNT, 255));
     control(base, "name_at_entry", "bone 0's name lies at the first entry", Read(12), |c| c.put_u64(name, first_entry));
+    control(base, "name_at_its_bone", "bone 0's name lies at bone 0 itself, whose first byte is 0", Accepted, |c| {
+        let at = c.pointer(s::BONES);
+        c.put_u64(name, at)
+    });
     control(base, "twelve_before_ten", "no buckets, their pointer and bone 0's name both 70 hex, in neither half", Read(12), |c| {
         c.set_pointer(s::BUCKETS, 0x70);
         c.set_count(s::BUCKET_COUNT, 0);
@@ -101,6 +105,12 @@ fn alias_controls(base: &Section) {
     let aliased = aliased.expect("an aliased list reads");
     define("children-read", "ℕ", &unsigned(aliased.children.as_deref().unwrap()), 16);
     println!("-- rows: {:?}", aliased.rows);
+    let aliased = control(base, "children_at_parents_past_end", "the children pointer is the parents pointer, the child count 255", Check(23), |c| {
+        c.set_pointer(s::CHILDREN, parents);
+        c.set_count(s::CHILD_COUNT, 255)
+    });
+    let aliased = aliased.expect("an aliased list reads");
+    define("children-read-past-end", "ℕ", &unsigned(aliased.children.as_deref().unwrap()), 16);
     let aliased = control(base, "local_at_inverse", "the local pointer is the inverse pointer", Check(25), |c| {
         c.set_pointer(s::LOCAL, inverse)
     });

@@ -11,3 +11,4 @@ pub mod FirstChildren
 pub mod Pushing
 pub mod Taking
 pub mod Layers
+pub mod Rooms

@@ -125,6 +125,8 @@ pub record Controls : Type 0 where
   pub childrenPastEnd : readWith ((96, 255) ∷ []) ≡ refused 11
   -- bone 0's name lies at the first entry
   pub nameAtEntry : readWith ((328, 208) ∷ (329, 0) ∷ []) ≡ refused 12
+  -- bone 0's name lies at bone 0 itself: the name is pooled before its bone
+  pub nameAtItsBone : checkWith ((328, 16) ∷ (329, 1) ∷ []) ≡ done (some 3)
   -- the bone count is 4: the fourth bone lies where bone 0's name was read
   pub fourthBone : readWith ((94, 4) ∷ []) ≡ refused 12
   -- the bones pointer is 15
@@ -159,6 +161,7 @@ pub record Controls : Type 0 where
   -- lists that lie at one address
   -- the children pointer is the parents pointer: three entries, whatever the child count
   pub childrenAtParents : childrenRead (readWith ((64, 144) ∷ [])) ≡ 65535 ∷ 0 ∷ 0 ∷ []
+  pub childrenAtParentsPastEnd : childrenRead (readWith ((64, 144) ∷ (96, 255) ∷ [])) ≡ 65535 ∷ 0 ∷ 0 ∷ []
   pub childrenAtParentsRefused : checkWith ((64, 144) ∷ []) ≡ refused 23
   -- the local pointer is the inverse pointer: the kept words are its column 4
   pub localAtInverse : keptRead (readWith ((48, 16) ∷ [])) ≡ replicate 3 (words4 0 0 0 0)

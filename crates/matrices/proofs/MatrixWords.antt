@@ -11,12 +11,12 @@ use Rattle.math.specs.declared.Mat4.{Mat4}
 use Rattle.math.proofs.Sizes.{length-from-quat-pos, length-inverse}
 use Rattle.format.specs.Section.{Place}
 use Rattle.format.specs.Bone.{Bone}
-use Rattle.format.specs.Matrices.{floats3, poseOf, walk, localOf, inverseOf}
+use Rattle.format.specs.Matrices.{floats3, walk, localOf, inverseOf}
 use Rattle.bones.specs.declared.Words4.{Words4}
 use Rattle.bones.specs.Value.{ourWords4}
 use Rattle.matrices.specs.declared.matrices.Joint.{Joint}
 use Rattle.matrices.specs.declared.matrices.Pose.{Pose}
-use Rattle.matrices.specs.Transforming.{jointOf, meantPose}
+use Rattle.matrices.specs.Transforming.{jointOf, ownPose, meantPose, inverseFrom}
 
 module _ {A B : Type 0} (f : A → B) where
   map-set : (l : List A) (i : ℕ) (a : A) → map f (set l i a) ≡ set (map f l) i (f a)
@@ -41,11 +41,17 @@ length-local b = simp (length-set, length-map) (length-from-quat-pos _ _)
 -- ---- the inverse matrix
 
 pub inverse-made :
-    (bones : List (Bone Place)) (n : ℕ) (b : Bone Place) (s : Pose) (m i : Mat4) (w : List ℕ) → length bones ≡ n
-    → meantPose s ≡ walk bones n (b .parent) (poseOf b) → m ≡ fromQuatPos (s .rotation) (s .position) → i ≡ inverse m
-    → w ≡ matrixWords i → setColumn4 0 0 0 0 w ≡ inverseOf bones b
-unfolding inverseOf
-inverse-made bones n b s m i w el es em ei ew = simp (ew, ei, em, el, ← es)
+    (s : Pose) (m i : Mat4) (w : List ℕ) → m ≡ fromQuatPos (s .rotation) (s .position) → i ≡ inverse m → w ≡ matrixWords i
+    → setColumn4 0 0 0 0 w ≡ inverseFrom (meantPose s)
+unfolding inverseFrom
+inverse-made s m i w em ei ew = rw (ew, ei, em)
+
+-- it is that of the bone whose walk ends there
+pub inverse-walked :
+    (bones : List (Bone Place)) (n : ℕ) (b : Bone Place) (j : Joint) (s : Pose) (w : List ℕ) → length bones ≡ n → j ≡ jointOf b
+    → meantPose s ≡ walk bones n (j .parent) (ownPose j) → w ≡ inverseFrom (meantPose s) → w ≡ inverseOf bones b
+unfolding inverseFrom inverseOf
+inverse-walked bones n b j s w el ej es ew = simp (ew, es, ej, el)
 
 pub length-inverse-of : (bones : List (Bone Place)) (b : Bone Place) → length (inverseOf bones b) ≡ 16
 unfolding inverseOf

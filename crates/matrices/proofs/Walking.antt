@@ -1,6 +1,6 @@
 -- Laws of the parent walk over a table: what it reads of a row, where it stops, and what one turn of the loop does to what is
 -- left of it. Assumes nothing.
-use Prim.Native.Nat.{ℕ, zero, suc, _+_, _-_, _*_, _/_, _≤_, _<_}
+use Prim.Native.Nat.{ℕ, zero, suc, _+_, _-_, _≤_, _<_}
 use native.Mathlib.Omega.{arith}
 use native.Mathlib.Nat.{add-zero, sub-zero}
 use mathlib.Core.Path.{_≡_, refl, sym, ap, _∙_}
@@ -10,26 +10,22 @@ use mathlib.Core.List.{List}
 use lib.ListN.{length, getD, drop}
 use lib.Seq.{getD-drop}
 use borrow.Author.Tests.{lt-ltb, le-ltb, le-leb, lt-leb}
-use Rattle.math.specs.Word.{floatOf}
-use Rattle.math.specs.Vector.{vec3, vec4, addVec3, quatMul, quatRotate}
+use Rattle.math.specs.Vector.{addVec3, quatMul, quatRotate}
 use Rattle.math.specs.declared.Vec3.{Vec3}
 use Rattle.math.specs.declared.Vec4.{Vec4}
-use Rattle.format.specs.Matrices.{Pose, within, poseOf, climb, boneAt, walk}
+use Rattle.format.specs.Matrices.{Pose, within, climb, boneAt, walk}
 use Rattle.format.specs.Rows.{boneWidth, boneOf, bonesOf}
 use Rattle.bones.specs.Row.{rowAt}
 use Rattle.bones.proofs.Rows.{row-at-suc, length-bones-of}
 use Rattle.matrices.specs.declared.matrices.Joint.{Joint}
-use Rattle.matrices.specs.Transforming.{jointOf}
+use Rattle.matrices.specs.declared.matrices.JointWords.{JointWords}
+use Rattle.matrices.specs.Transforming.{jointWords, meantJoint, jointOf}
 
--- what the walk takes from a row, read word by word
+-- what the words of a row stand for is what the walk takes from its bone
 pub joint-made :
-    (t : List ℕ) (p : ℕ) (q : Vec4) (v : Vec3)
-    → q ≡ vec4 (floatOf (getD t (21 * p) 0)) (floatOf (getD t (21 * p + 1) 0)) (floatOf (getD t (21 * p + 2) 0))
-    (floatOf (getD t (21 * p + 3) 0))
-    → v ≡ vec3 (floatOf (getD t (21 * p + 4) 0)) (floatOf (getD t (21 * p + 5) 0)) (floatOf (getD t (21 * p + 6) 0))
-    → record { rotation = q; translation = v; parent = getD t (21 * p + 10) 0 / 65536 } ≡ jointOf (rowAt t p)
+    (t : List ℕ) (p : ℕ) (r : JointWords) (j : Joint) → r ≡ jointWords t p → j ≡ meantJoint r → j ≡ jointOf (rowAt t p)
 unfolding boneOf
-joint-made t p q v eq ev = simp (eq, ev, getD-drop, add-zero)
+joint-made t p r j er ej = simp (ej, er, getD-drop, add-zero)
 
 -- the bone at a position is the bone in that row
 bone-at-bones-of : (n p : ℕ) (t : List ℕ) → p < n → boneAt (bonesOf n t) p ≡ some (rowAt t p)
@@ -72,11 +68,8 @@ module _ (t : List ℕ) (n p : ℕ) (s : Pose) where
 -- ---- the loop, from the values of its calls
 
 -- where it begins
-pub walk-starts :
-    (t : List ℕ) (n at : ℕ) (j : Joint) → j ≡ jointOf (rowAt t at)
-    → walk (bonesOf n t) (n - 0) (j .parent) (record { position = j .translation; rotation = j .rotation })
-    ≡ walk (bonesOf n t) n (rowAt t at .parent) (poseOf (rowAt t at))
-walk-starts t n at j e = rw (e, sub-zero)
+pub walk-starts : (t : List ℕ) (n p : ℕ) (s : Pose) → walk (bonesOf n t) (n - 0) p s ≡ walk (bonesOf n t) n p s
+walk-starts t n p s = rw sub-zero
 
 -- one turn
 pub walk-turn :

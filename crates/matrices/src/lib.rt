@@ -1,4 +1,4 @@
 // The tables that follow from the bones (document 01, "Deriving"). The caller lends every table; no call needs other memory.
 // Each call refuses 2, then 1, and leaves its tables zero on a refusal.
-pub mod floats; // words as floats
+mod floats; // words as floats
 pub mod matrices; // `build_transformations`

@@ -24,16 +24,16 @@ use Rattle.blocks.specs.declared.pool.Stored.the-variants.{Done, Full}
 use Rattle.blocks.proofs.Storing.{after, tables-done, tables-full}
 use Rattle.read_chains.specs.Lent.{HoldsChains}
 use Rattle.read_chains.proofs.Lent.{holds-none}
-use Rattle.read.specs.Header.{meantHeader, meantHeaded}
+use Rattle.records.specs.Header.{meantHeader, meantHeaded}
 use Rattle.read.specs.Parts.{meantPart, listing, readRows, rowsOnly, RowsLent, RowsBy, ReadsRows}
 use Rattle.read.specs.Parts.{readPair, PairLent, PairBy, ReadsPair, KeepsPart}
 use Rattle.read.specs.Lent.{Lent, lent, roomOf, clearedAll}
 use Rattle.read.specs.Reads.{meantSkeleton, Fills}
 use Rattle.read.specs.declared.Skeleton.{Skeleton}
 use Rattle.read.specs.declared.Filled.the-variants as F
-use Rattle.read.specs.declared.header.Header.{Header}
-use Rattle.read.specs.declared.header.Headed.{Headed}
-use Rattle.read.specs.declared.header.Headed.the-variants as H
+use Rattle.records.specs.declared.header.Header.{Header}
+use Rattle.records.specs.declared.header.Headed.{Headed}
+use Rattle.records.specs.declared.header.Headed.the-variants as H
 use Rattle.read.specs.declared.Part.{Part}
 use Rattle.read.specs.declared.parts.Two.{Two}
 use Rattle.read.specs.declared.parts.Two.the-variants as T

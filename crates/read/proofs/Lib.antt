@@ -1,4 +1,3 @@
-pub mod Headers
 pub mod Firsts
 pub mod One
 pub mod Two

@@ -25,7 +25,7 @@ use Rattle.read_lists.proofs.Others.{bucket-array-spared, bones-at-spared}
 use Rattle.read.specs.Parts.{meantPart, Fits, ChainsLeft, ChainsBy, ReadsChains, NoBlock, BonesBy, ReadsBonesIn}
 use Rattle.read.specs.Parts.{listing, ListBy, ReadsListIn, readRows, rowsOnly, RowsLent, ReadsRows}
 use Rattle.read.specs.Parts.{readPair, PairLent, ReadsPair}
-use Rattle.read.specs.declared.header.Header.{Header}
+use Rattle.records.specs.declared.header.Header.{Header}
 use Rattle.read.specs.declared.Part.{Part}
 use Rattle.read.specs.declared.parts.Got.{Got}
 use Rattle.read.specs.declared.parts.Got.the-variants as G

@@ -21,8 +21,8 @@ use Rattle.read_bones.specs.Lent.{BonesIn, Lent, leaving, InOrder}
 use Rattle.read_bones.specs.Bones.{Before}
 use Rattle.read_lists.specs.Lists.{twin, rowsIn, ListsStand}
 use Rattle.read_lists.specs.Reads as lists
-use Rattle.read.specs.Header.{meantHeader}
-use Rattle.read.specs.declared.header.Header.{Header}
+use Rattle.records.specs.Header.{meantHeader}
+use Rattle.records.specs.declared.header.Header.{Header}
 use Rattle.read.specs.declared.Part.{Part}
 use Rattle.read.specs.declared.Part.the-variants.{Absent, Of}
 use Rattle.read.specs.declared.parts.Got.{Got}

@@ -5,15 +5,15 @@ ghost use Rattle.format.specs.Read.{readSkeleton};
 ghost use Rattle.blocks.specs.Places.{section};
 ghost use Rattle.read.specs.Lent.{lent, clearedAll, roomOf};
 ghost use Rattle.read.specs.Reads.{Fills, Reads};
-use crate::header::Headed;
 use crate::parts::Two;
 use blocks::kinds::Kind;
 use blocks::pool;
 use blocks::pool::Stored;
 use bones::Words4;
 use format::Refusal;
+use records::header;
+use records::header::Headed;
 
-pub mod header; // the fields of the skeleton's record
 mod parts; // the parts, one after another
 
 // Whether a part stands, and how long it is: in rows, and in words of a list of matrices.

@@ -6,7 +6,6 @@ ghost use Rattle.format.specs.Tables.{inverseTable, parentsTable};
 ghost use Rattle.read_lists.specs.Lists.{matrixTable, indexTable};
 ghost use Rattle.read.specs.Parts.{ReadsChains, ReadsBonesIn, ReadsListIn, ReadsRows, ReadsPair, KeepsPart};
 use crate::Part;
-use crate::header::Header;
 use format::Refusal;
 use read_bones::Block;
 use read_bones::columns;
@@ -14,6 +13,7 @@ use read_chains::Buckets;
 use read_lists::Indices;
 use read_lists::Listed;
 use read_lists::Matrices;
+use records::header::Header;
 
 // What a part comes to.
 pub enum Got {

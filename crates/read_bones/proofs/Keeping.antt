@@ -73,7 +73,7 @@ kept-words (b ∷ bs) (suc r) k rest h =
     ∙ ap (λ (l : List ℕ). boneWords b ++ l) (kept-words bs r k rest (omega arith))
     ∙ sym (append-assoc (boneWords b) (wordsOf (alter r (keeping k) bs)) rest))
 
-length-alter : {A : Type 0} (r : ℕ) (f : A → A) (l : List A) → length (alter r f l) ≡ length l
+pub length-alter : {A : Type 0} (r : ℕ) (f : A → A) (l : List A) → length (alter r f l) ≡ length l
 unfolding alter
 length-alter zero f [] = refl
 length-alter zero f (x ∷ l) = refl

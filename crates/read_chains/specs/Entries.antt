@@ -6,16 +6,11 @@ use mathlib.Core.Option.{Option, none, some}
 use mathlib.Core.List.{List}
 use Rattle.format.specs.Result.{Res, refused, done, _>>=_}
 use Rattle.format.specs.Refusal.{number}
-use Rattle.format.specs.Field.{field}
 use Rattle.format.specs.Section.{Section, part}
-use Rattle.format.specs.Records.{entryTag, entryPosition, entryNext}
 use Rattle.format.specs.Tables.{Tables, Room}
 use Rattle.format.specs.Read.{Step, linkTo, readChain, readHead}
 use Rattle.blocks.specs.Hashed.{Represents}
 use Rattle.read_chains.specs.Lent.{Linked, HoldsEntries, Comes}
-use Rattle.read_chains.specs.declared.chains.Entry.{Entry}
-use Rattle.read_chains.specs.declared.chains.Fields.{Fields}
-use Rattle.read_chains.specs.declared.chains.Fields.the-variants as F
 use Rattle.read_chains.specs.declared.chains.Link.{Link}
 use Rattle.read_chains.specs.declared.chains.Link.the-variants as L
 use Rattle.read_chains.specs.declared.chains.Step.{Step as Answer}
@@ -25,23 +20,7 @@ use Rattle.read_chains.specs.declared.chains.Chain.the-variants as C
 use Rattle.read_chains.specs.declared.chains.Head.{Head}
 use Rattle.read_chains.specs.declared.chains.Head.the-variants as H
 
--- ---- the fields of an entry
-
-abbrev pub entryIn : List ℕ → ℕ → Entry
-entryIn half at = record { tag = field 4 half at; position = field 4 half (at + 4); next = field 8 half (at + 8) }
-
--- those of its sixteen bytes
-abbrev pub entryOf : List ℕ → Entry
-entryOf b = record { tag = entryTag b; position = entryPosition b; next = entryNext b }
-
-unfoldable pub entryAt : Section → ℕ → Res Entry
-entryAt sec va = do
-  b ← part sec va 16
-  done (entryOf b)
-
-abbrev pub meantFields : Fields → Res Entry
-meantFields (F.At e) = done e
-meantFields (F.Refused x) = refused (number x)
+-- ---- no row
 
 -- what an entry comes to where no row is left
 unfoldable pub noRow : Section → ℕ → Res Tables

@@ -2,14 +2,14 @@
 // shares it"). A row of the entries table is three words: the tag, the position, and the link.
 ghost use mathlib.Core.Path.{_≡_};
 ghost use mathlib.Core.List.{[], _∷_};
-ghost use Prim.Native.Nat.{_+_, _*_, _%_, _<_, _≤_};
+ghost use Prim.Native.Nat.{_+_, _*_, _%_, _<_};
 ghost use lib.ListN.{length};
 ghost use lib.Seq.{sets};
 ghost use Rattle.format.specs.Result.{refused};
 ghost use Rattle.format.specs.Refusal.{number};
 ghost use Rattle.blocks.specs.Places.{section};
 ghost use Rattle.read_chains.specs.Lent.{entryRoom};
-ghost use Rattle.read_chains.specs.Entries.{entryIn, entryAt, meantFields, noRow, LinksTo};
+ghost use Rattle.read_chains.specs.Entries.{noRow, LinksTo};
 ghost use Rattle.read_chains.specs.Entries.{ReadsEntry, ReadsChain, ReadsHead};
 use blocks::kinds::Kind;
 use blocks::places;
@@ -18,6 +18,8 @@ use blocks::pool;
 use blocks::pool::Cached;
 use blocks::pool::Stored;
 use format::Refusal;
+use records::entry;
+use records::entry::Fields;
 
 // The words of a row of the entries table.
 pub const ENTRY_WORDS: usize = 3;
@@ -25,20 +27,6 @@ pub const ENTRY_WORDS: usize = 3;
 // The most rows of an entries table that are used: the link to the row behind the last is a 32-bit word, too. No section has
 // more addresses than an eighth of these.
 pub const MOST_ENTRIES: usize = 4294967294;
-
-// The fields of an entry: its tag, its position, and the address of the next.
-struct Entry {
-    tag: u32,
-    position: u32,
-    next: u64,
-}
-
-// What the bytes at an address hold.
-enum Fields {
-    At(Entry),
-    // 10 where the address is in neither half, 11 where not all the bytes stand
-    Refused(Refusal),
-}
 
 // Where an address leads from an entry or a bucket.
 enum Link {
@@ -88,29 +76,6 @@ fn link_of(row: u64) -> u32
     ensures { λ r. ⌜ r ≡ row % 4294967295 + 1 ⌝ }
 {
     (row % 4294967295 + 1) as u32
-}
-
-// The fields of the entry at an offset where its bytes stand.
-fn entry_in(half: &[u8], at: usize) -> Entry
-    requires { ⌜ at + 16 ≤ length (now half) ⌝ }
-    ensures { λ r. ⌜ r ≡ entryIn (now (half .entry)) at ⌝ }
-{
-    Entry {
-        tag: fields::u32_at(half, at),
-        position: fields::u32_at(half, at + 4),
-        next: fields::u64_at(half, at + 8),
-    }
-}
-
-// The fields of the entry at an address, whose 16 bytes must stand: 10, 11.
-fn entry_at(sys: &[u8], gfx: &[u8], va: u64) -> Fields
-    ensures { λ r. ⌜ meantFields r ≡ entryAt (section (now (sys .entry)) (now (gfx .entry))) va ⌝ }
-{
-    match places::locate(sys, gfx, va, format::ENTRY_SIZE) {
-        Located::System(o) => Fields::At(entry_in(sys, o)),
-        Located::Graphics(o) => Fields::At(entry_in(gfx, o)),
-        Located::Refused(r) => Fields::Refused(r),
-    }
 }
 
 // Why the entry at an address is not read where no row is left: 10, 11, then 1.
@@ -163,7 +128,7 @@ fn read_entry(
     ensures { λ r. ⌜ ReadsEntry (section (now (sys .entry)) (now (gfx .entry))) va row r
         (now (entries .entry)) (now (entries .exit)) (now (pool .entry)) (now (pool .exit)) ⌝ }
 {
-    let f = entry_at(sys, gfx, va);
+    let f = entry::entry_at(sys, gfx, va);
     match f {
         Fields::Refused(r) => Step::Refused(r),
         Fields::At(e) => {

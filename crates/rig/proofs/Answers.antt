@@ -13,7 +13,8 @@ use Rattle.joints.specs.Reading.{given, meantRead}
 use Rattle.joints.specs.declared.read.Joints as declared
 use Rattle.joints.specs.declared.read.JointsRead.{JointsRead}
 use Rattle.joints.specs.declared.read.JointsRead.the-variants as answer
-use Rattle.rig.specs.Answer.{status, counted, readStatus, numberIf, countIf, jointsFields}
+use Rattle.answers.specs.Answer.{status, counted, readStatus, numberIf}
+use Rattle.rig.specs.Answer.{countIf, jointsFields}
 
 pub status-done : {A : Type 0} {x : Res A} {a : A} → done a ≡ x → 0 ≡ status x
 status-done e = ap status e

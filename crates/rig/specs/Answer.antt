@@ -1,4 +1,4 @@
--- Answers as numbers, for C and Rust: a status, 0 or document 01's number, and a count. Definitions only.
+-- What is told of joints that are read, in numbers. Definitions only.
 use Prim.Native.Nat.{ℕ}
 use mathlib.Core.Bool.{Bool, true, false}
 use mathlib.Core.Option.{Option, none, some}
@@ -6,37 +6,12 @@ use mathlib.Core.List.{List, [], _∷_}
 use lib.ListN.{replicate}
 use Rattle.format.specs.Result.{Res, refused, done}
 use Rattle.format.specs.Joints.{Joints}
+use Rattle.answers.specs.Answer.{numberIf, stands}
 
--- 0 where the call is done, else the refusal's number
-abbrev pub status : {A : Type 0} → Res A → ℕ
-status (done a) = 0
-status (refused n) = n
-
--- the count, 0 after a refusal
-abbrev pub counted : Res ℕ → ℕ
-counted (done n) = n
-counted (refused c) = 0
-
--- ---- joints
-
--- the status of a reading: 100 for none, where the root address is 0
-abbrev pub readStatus : {A : Type 0} → Res (Option A) → ℕ
-readStatus (done (some a)) = 0
-readStatus (done none) = 100
-readStatus (refused n) = n
-
--- 1 or 0, and a count or 0, by whether a list stands
-abbrev pub numberIf : Bool → ℕ
-numberIf true = 1
-numberIf false = 0
-
+-- a count, or 0, by whether a list stands
 abbrev pub countIf : Bool → ℕ → ℕ
 countIf true n = n
 countIf false n = 0
-
-abbrev pub stands : {A : Type 0} → Option (List A) → Bool
-stands none = false
-stands (some l) = true
 
 -- the kind word, the two stored counts, and of each list whether it stands and how many limits it then has; zeros where nothing is read
 abbrev pub jointsFields : Res (Option Joints) → List ℕ

@@ -10,7 +10,7 @@ ghost use Rattle.tables.specs.Outcome.{leaves};
 ghost use Rattle.derive.specs.Tagging.{tagsResult};
 ghost use Rattle.derive.specs.Indexing.{indicesResult, parentsOf, childrenOf};
 ghost use Rattle.matrices.specs.Transforming.{matricesResult, MatrixRows};
-ghost use Rattle.rig.specs.Answer.{status, counted};
+ghost use Rattle.answers.specs.Answer.{status, counted};
 use derive::indices::Indexed;
 use derive::tags::Tagged;
 use matrices::matrices::Transformed;

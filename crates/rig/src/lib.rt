@@ -7,6 +7,7 @@ ghost use Rattle.fields.specs.Placed.{placed};
 mod derived; // the tables that follow from the bones
 mod names; // the hash of a name
 mod limits; // joints
+mod sections; // a skeleton's section
 
 // ---- reading: the number, or 0 where the field does not lie wholly in the slice
 

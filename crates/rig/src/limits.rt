@@ -6,12 +6,11 @@ ghost use Rattle.format.specs.Joints.{freshSlots};
 ghost use Rattle.format.specs.Rows.{laid};
 ghost use Rattle.joints.specs.Reading.{tableRead, rotationTable, translationTable};
 ghost use Rattle.joints.specs.Written.{tableWritten, sizeOf, leftIn};
-ghost use Rattle.rig.specs.Answer.{status, counted, readStatus, numberIf, countIf, jointsFields};
+ghost use Rattle.answers.specs.Answer.{status, counted, readStatus, numberIf};
+ghost use Rattle.rig.specs.Answer.{countIf, jointsFields};
+use answers::NOTHING;
 use joints::read::JointsRead;
 use joints::write::JointsWritten;
-
-// The status of "none".
-const NOTHING: u32 = 100;
 
 fn number_if(b: bool) -> u32
     ensures { λ r. ⌜ r ≡ numberIf b ⌝ }

@@ -1,15 +1,15 @@
 -- Names: which the writer takes, the bytes that they take, and how they are stored one behind the other. In order: bytes without
 -- a zero; good names and their sizes; the loop that measures; the loop that stores. Assumes nothing.
 use mathlib.Core.Path.{_≡_, refl, sym, ap, _∙_}
-use mathlib.Core.Bool.{Bool, true, false}
+use mathlib.Core.Bool.{Bool, true, false, not, _&&_}
 use mathlib.Core.Option.{Option, none, some}
 use mathlib.Core.List.{List, [], _∷_, _++_, flatMap}
-use Prim.Native.Nat.{ℕ, _+_, _-_, _*_, _≤_, _<_}
+use Prim.Native.Nat.{ℕ, zero, suc, _+_, _-_, _*_, _≤_, _<_}
 use native.Mathlib.Nat.{add-zero, sub-zero, zero-add}
 use native.Mathlib.Numerals.{add-one}
 use native.Mathlib.Omega.{arith}
-use borrow.Author.Tests.{eq-eqb, ne-eqb, le-leb, lt-leb, leb-true}
-use lib.Dec.{leb}
+use borrow.Author.Tests.{le-leb, lt-leb, leb-true}
+use lib.Dec.{leb, eqb}
 use lib.ListN.{length, getD, set, take, drop, length-append, length-drop, drop-of-length-le}
 use lib.Seq.{sets, drop-cons, length-take-le}
 use Rattle.format.specs.Result.{Res, refused, done, _>>=_, need}
@@ -29,32 +29,76 @@ use Rattle.bones.specs.Value.{ourPlace}
 use Rattle.format.specs.declared.Place as our
 use Rattle.write.specs.Records.{takes, takesAll, ShortName}
 use Rattle.write.specs.Names.{nameIn, namesResult, NamesRoom}
-use Rattle.write.proofs.Runs.{Left, left-none, left-more, left-all}
+use Rattle.write.proofs.Runs.{length-cut, cut-byte, last-cut, Left, left-none, left-more, left-all}
 use Rattle.write.proofs.Bones.{name-none, name-some, part-from, bones-next}
 
 -- ---- bytes without a zero
 
--- the first i bytes are passed
-pub record Passed (s : List ℕ) (i : ℕ) : Type 0 where
-  pub high : i ≤ length s
-  pub same : noZero s ≡ noZero (drop i s)
+and-assoc : (a b c : Bool) → (a && b && c) ≡ (a && (b && c))
+and-assoc true b c = refl
+and-assoc false b c = refl
 
-pub passed-none : (s : List ℕ) → Passed s 0
+and-both : (a b c : Bool) → (a && b && (a && c)) ≡ (a && (b && c))
+and-both true b c = refl
+and-both false b c = refl
+
+and-true : (a : Bool) → (a && true) ≡ a
+and-true true = refl
+and-true false = refl
+
+-- the first i bytes are passed, and `good` says whether none of them is zero
+pub record Passed (s : List ℕ) (i : ℕ) (good : Bool) : Type 0 where
+  pub high : i ≤ length s
+  pub same : noZero s ≡ (good && noZero (drop i s))
+
+pub passed-none : (s : List ℕ) → Passed s 0 true
 passed-none s = record { high = omega arith; same = refl }
 
-module _ {s : List ℕ} {i : ℕ} (h : Passed s i) where
-  pub passed-more : i < length s → (getD s i 0 ≡ 0 → ⊥) → Passed s (i + 1)
-  unfolding noZero
-  passed-more l n =
-      record { high = omega arith; same = h .same ∙ rw (drop-cons s i 0 l, ne-eqb (getD s i 0) 0 n, add-one) }
+pub passed-more :
+    (s : List ℕ) (at k : ℕ) {i : ℕ} {good : Bool} → at + k ≤ length s → Passed (take k (drop at s)) i good → i < k
+    → Passed (take k (drop at s)) (i + 1) (good && not (eqb (getD s (at + i) 0) 0))
+unfolding noZero
+passed-more s at k {i} {good} r h l =
+    let w = take k (drop at s) in
+    let m : i < length w = rw (length-cut s at k r) l in
+    let e : noZero (drop i w) ≡ (not (eqb (getD s (at + i) 0) 0) && noZero (drop (i + 1) w)) =
+    rw (drop-cons w i 0 m, cut-byte s at k i l, add-one) in
+    record {
+      high = omega (arith, m);
+      same = h .same ∙ rw e (sym (and-assoc good (not (eqb (getD s (at + i) 0) 0)) (noZero (drop (i + 1) w))));
+    }
 
-  pub passed-zero : i < length s → getD s i 0 ≡ 0 → false ≡ noZero s
-  unfolding noZero
-  passed-zero l e = sym (h .same ∙ rw (drop-cons s i 0 l, eq-eqb (getD s i 0) 0 e))
+pub passed-all :
+    (s : List ℕ) (at k : ℕ) {i : ℕ} {good : Bool} → at + k ≤ length s → Passed (take k (drop at s)) i good → k ≤ i
+    → good ≡ noZero (take k (drop at s))
+unfolding noZero
+passed-all s at k {i} {good} r h l =
+    let m : length (take k (drop at s)) ≤ i = rw (length-cut s at k r) l in
+    sym (h .same ∙ rw (drop-of-length-le (take k (drop at s)) m) (and-true good))
 
-  pub passed-all : length s ≤ i → true ≡ noZero s
-  unfolding noZero
-  passed-all l = sym (h .same ∙ rw (drop-of-length-le s l))
+-- bytes begin with their first
+start-good : (k : ℕ) (s : List ℕ) → (noZero (take k s) && noZero s) ≡ noZero s
+unfolding noZero
+start-good zero s = refl
+start-good (suc k) [] = refl
+start-good (suc k) (x ∷ s) =
+    and-both (not (eqb x 0)) (noZero (take k s)) (noZero s) ∙ ap (λ (b : Bool). not (eqb x 0) && b) (start-good k s)
+
+-- the first k bytes and those from the j-th on are all
+ends-good : (j k : ℕ) (s : List ℕ) → j ≤ k → (noZero (take k s) && noZero (drop j s)) ≡ noZero s
+unfolding noZero
+ends-good zero k s h = start-good k s
+ends-good (suc j) zero s h = absurd (omega arith)
+ends-good (suc j) (suc k) [] h = refl
+ends-good (suc j) (suc k) (x ∷ s) h =
+    and-assoc (not (eqb x 0)) (noZero (take k s)) (noZero (drop j s))
+    ∙ ap (λ (b : Bool). not (eqb x 0) && b) (ends-good j k s (omega arith))
+
+pub no-zero-ends :
+    (s : List ℕ) (k : ℕ) {a b : Bool} → k ≤ length s → length s ≤ 2 * k → a ≡ noZero (take k s)
+    → b ≡ noZero (take k (drop (length s - k) s)) → (a && b) ≡ noZero s
+no-zero-ends s k {a} {b} h m e f =
+    rw (e, f, last-cut s k h) (ends-good (length s - k) k s (omega arith))
 
 -- ---- good names and their sizes
 

@@ -1,17 +1,19 @@
--- Bytes stored one behind the other: what is left to store gives the whole. In order: stores that do not meet; what is left;
--- words of k bytes, bytes as they are and zeros, as the loops store them; a part with its fill. Assumes nothing.
+-- Bytes stored one behind the other: what is left to store gives the whole. In order: stores that do not meet, and those that
+-- overlap; bytes as they are; what is left; words of k bytes and zeros, as the loops store them; a part with its fill. Assumes
+-- nothing.
 use mathlib.Core.Path.{_≡_, refl, sym, ap, _∙_}
 use mathlib.Core.List.{List, [], _∷_, _++_, append-nil}
-use Prim.Native.Nat.{ℕ, suc, _+_, _-_, _*_, _≤_, _<_}
+use Prim.Native.Nat.{ℕ, zero, suc, _+_, _-_, _*_, _≤_, _<_}
 use native.Mathlib.Nat.{add-zero, sub-zero, mul-zero, mul-suc, add-assoc}
 use native.Mathlib.Numerals.{add-one}
 use native.Mathlib.Omega.{arith}
-use lib.ListN.{length, getD, drop, set, replicate, length-append, drop-of-length-le}
-use lib.Seq.{sets, length-sets, drop-cons, set-comm}
+use lib.ListN.{length, getD, take, drop, set, replicate, length-append, length-take, length-drop, drop-of-length-le}
+use lib.Seq.{sets, length-sets, drop-cons, set-set, set-comm, take-all, length-take-le, getD-take, getD-drop}
 use Rattle.format.specs.Field.{bytes, wordBytes}
 use Rattle.format.specs.Layout.{fill, pad16}
 use Rattle.format.proofs.Fields.{length-bytes}
-use Rattle.fields.proofs.Stores.{sets-append}
+use Rattle.fields.proofs.Stores.{sets-append, part-sets-same}
+use Rattle.bones.proofs.Words.{Pasted, pasted-more, pasted-all}
 
 -- ---- stores that do not meet
 
@@ -27,6 +29,66 @@ sets-swap [] b s i j h = refl
 sets-swap (x ∷ a) b s i j h =
     sets-swap a b (set s i x) (suc i) j (omega arith)
     ∙ ap (λ (l : List ℕ). sets l (suc i) a) (set-past b s i j x (omega arith))
+
+-- ---- stores that overlap
+
+-- a run of stores over a shorter one
+sets-over : (a b s : List ℕ) (i : ℕ) → length a ≤ length b → sets (sets s i a) i b ≡ sets s i b
+sets-over [] b s i h = refl
+sets-over (x ∷ a) [] s i h = absurd (omega arith)
+sets-over (x ∷ a) (y ∷ b) s i h =
+    ap (λ (l : List ℕ). sets l (suc i) b)
+    (sym (set-past a (set s i x) i (suc i) y (omega arith)) ∙ ap (λ (l : List ℕ). sets l (suc i) a) (set-set s i x y))
+    ∙ sets-over a b (set s i y) (suc i) (omega arith)
+
+-- the first k bytes and those from the j-th on are all
+sets-ends : (j k : ℕ) (x s : List ℕ) (i : ℕ) → j ≤ k → sets (sets s i (take k x)) (i + j) (drop j x) ≡ sets s i x
+sets-ends zero k x s i h = simp add-zero (sets-over (take k x) x s i (simp length-take (omega arith)))
+sets-ends (suc j) zero x s i h = absurd (omega arith)
+sets-ends (suc j) (suc k) [] s i h = refl
+sets-ends (suc j) (suc k) (y ∷ x) s i h =
+    let e : i + suc j ≡ suc i + j = omega arith in
+    rw e (sets-ends j k x (set s i y) (suc i) (omega arith))
+
+-- ---- bytes as they are: k of s, from a place on
+
+module _ (s : List ℕ) (from k : ℕ) where
+  pub length-cut : from + k ≤ length s → length (take k (drop from s)) ≡ k
+  length-cut h = length-take-le k (drop from s) (simp length-drop (omega arith))
+
+  pub cut-byte : (i : ℕ) → i < k → getD (take k (drop from s)) i 0 ≡ getD s (from + i) 0
+  cut-byte i l = getD-take k (drop from s) i 0 l ∙ getD-drop from s i 0
+
+  module _ {d₀ d : List ℕ} {at i : ℕ} (h : from + k ≤ length s) (r : at + k ≤ length d₀)
+      (p : Pasted d₀ at (take k (drop from s)) d i) where
+    room : at + length (take k (drop from s)) ≤ length d₀
+    room = rw (length-cut h) r
+
+    pub cut-more : i < k → Pasted d₀ at (take k (drop from s)) (set d (at + i) (getD s (from + i) 0)) (i + 1)
+    cut-more l = rw (← cut-byte i l) (pasted-more room p (rw (length-cut h) l))
+
+    pub cut-all : k ≤ i → d ≡ sets d₀ at (take k (drop from s))
+    cut-all l = pasted-all room p (rw (length-cut h) l)
+
+  -- by a copy in b
+  pub copied :
+      (b₀ d : List ℕ) (at : ℕ) {b d′ : List ℕ} → from + k ≤ length s → k ≤ length b₀ → b ≡ sets b₀ 0 (take k (drop from s))
+      → d′ ≡ sets d at (take k b) → d′ ≡ sets d at (take k (drop from s))
+  copied b₀ d at {b} {d′} h m e f =
+      let n = length-cut h in
+      let g = part-sets-same (take k (drop from s)) b₀ 0 (rw n (omega (arith, m))) in
+      let q : take k b ≡ take k (drop from s) = rw e (rw n at g) in
+      f ∙ rw q
+
+-- the last k
+pub last-cut : (s : List ℕ) (k : ℕ) → k ≤ length s → take k (drop (length s - k) s) ≡ drop (length s - k) s
+last-cut s k h = take-all k (drop (length s - k) s) (simp length-drop (omega arith))
+
+pub stored-ends :
+    (s : List ℕ) (k : ℕ) (d : List ℕ) (at : ℕ) {d′ d″ : List ℕ} → k ≤ length s → length s ≤ 2 * k → d′ ≡ sets d at (take k s)
+    → d″ ≡ sets d′ (at + (length s - k)) (take k (drop (length s - k) s)) → d″ ≡ sets d at s
+stored-ends s k d at {d′} {d″} h m e f =
+    f ∙ rw (e, last-cut s k h) (sets-ends (length s - k) k s d at (omega arith))
 
 -- ---- what is left
 

@@ -3,7 +3,7 @@
 use mathlib.Core.Path.{_≡_, refl, sym, ap, _∙_}
 use mathlib.Core.Bool.{Bool, true, false}
 use mathlib.Core.List.{List, flatMap}
-use Prim.Native.Nat.{ℕ, _+_, _-_, _*_, _/_, _≤_}
+use Prim.Native.Nat.{ℕ, _+_, _-_, _*_, _≤_}
 use native.Mathlib.Omega.{arith}
 use borrow.Author.Tests.{le-leb, leb-true}
 use lib.ListN.{length, replicate, length-append, length-replicate}
@@ -19,12 +19,14 @@ use Rattle.tables.specs.Outcome.{derived, leaves}
 use Rattle.tables.proofs.Outcome.{both-true}
 use Rattle.derive.specs.Tagging.{tagsHold, tagsResult, taggedOf}
 use Rattle.derive.specs.Indexing.{indicesHold, indicesResult, indexedOf, childrenOf}
+use Rattle.derive.proofs.Rooms as rooms
 use Rattle.derive.specs.declared.tags.Tagged.{Tagged}
 use Rattle.derive.specs.declared.tags.Tagged.the-variants as tagged
 use Rattle.derive.specs.declared.indices.Indexed.{Indexed}
 use Rattle.derive.specs.declared.indices.Indexed.the-variants as indexed
 use Rattle.tables.specs.Outcome.{derived as derived-matrices}
 use Rattle.matrices.specs.Transforming.{matricesHold, matricesResult, transformedOf, MatrixRows}
+use Rattle.matrices.proofs.MatrixRoom.{holds-all}
 use Rattle.matrices.specs.declared.matrices.Transformed.{Transformed}
 use Rattle.matrices.specs.declared.matrices.Transformed.the-variants as transformed
 use Rattle.write.specs.Names.{RowsHere}
@@ -36,59 +38,10 @@ use Rattle.write.specs.declared.working.Derived.the-variants.{Children, 
 -- ---- room, by numbers
 
 -- document 01's sizes for n bones, by the tables' words
-pub record Enough (n : ℕ) (x : Tables) : Type 0 where
-  pub buckets : bucketCount n ≤ length (x .buckets)
-  pub entries : 3 * entryCount n ≤ length (x .entries)
-  pub inverse : 16 * n ≤ length (x .inverse)
-  pub local : 16 * n ≤ length (x .local)
-  pub parents : n ≤ length (x .parents)
-  pub children : 8 * (n + 1) ≤ length (x .children)
-  pub pending : 2 * (4 * (n + 1)) ≤ length (x .pending)
-
-module _ (n : ℕ) (x : Tables) where
-  enough-derives : Enough n x → derives (roomIn x) n ≡ true
-  unfolding derives
-  enough-derives h =
-      rw (
-        le-leb (bucketCount n) (length (x .buckets)) (h .buckets),
-        le-leb (entryCount n) (length (x .entries) / 3) (omega (arith, h .entries)),
-        le-leb n (length (x .inverse) / 16) (omega (arith, h .inverse)),
-        le-leb n (length (x .local) / 16) (omega (arith, h .local)),
-        le-leb n (length (x .parents)) (h .parents),
-        le-leb (8 * (n + 1)) (length (x .children)) (h .children),
-        le-leb (4 * (n + 1)) (length (x .pending) / 2) (omega (arith, h .pending)),
-      )
-
-  derives-enough : derives (roomIn x) n ≡ true → Enough n x
-  unfolding derives
-  derives-enough e =
-      let g = both-true _ _ e in
-      let f = both-true _ _ (g .0) in
-      let d = both-true _ _ (f .0) in
-      let c = both-true _ _ (d .0) in
-      let b = both-true _ _ (c .0) in
-      let a = both-true _ _ (b .0) in
-      let ke = leb-true (entryCount n) (length (x .entries) / 3) (a .1) in
-      let ki = leb-true n (length (x .inverse) / 16) (b .1) in
-      let kl = leb-true n (length (x .local) / 16) (c .1) in
-      let kq = leb-true (4 * (n + 1)) (length (x .pending) / 2) (g .1) in
-      record {
-        buckets = leb-true (bucketCount n) (length (x .buckets)) (a .0);
-        entries = omega (arith, ke);
-        inverse = omega (arith, ki);
-        local = omega (arith, kl);
-        parents = leb-true n (length (x .parents)) (d .1);
-        children = leb-true (8 * (n + 1)) (length (x .children)) (f .1);
-        pending = omega (arith, kq);
-      }
-
-  -- a test that some room lacks fails them all
-  derives-not : (Enough n x → _≡_ {A = ℕ} 0 1) → derives (roomIn x) n ≡ false
-  derives-not f = by (derives (roomIn x) n) refl
-    where
-      by : (q : Bool) → derives (roomIn x) n ≡ q → q ≡ false
-      by true e = absurd (omega (arith, f (derives-enough e)))
-      by false e = refl
+abbrev Enough : ℕ → Tables → Type 0
+Enough n x =
+    rooms.Enough n (length (x .buckets)) (length (x .entries)) (length (x .inverse)) (length (x .local)) (length (x .parents))
+    (length (x .children)) (length (x .pending))
 
 -- ---- a call
 
@@ -128,7 +81,7 @@ still-laid w m e l = rw l e
 module _ (n : ℕ) (t : List ℕ) (x : Tables) (here : RowsHere t n) where
   -- where a call lacks room, so do the tables
   lacks : (hold : Bool) → (Enough n x → hold ≡ true) → hold ≡ false → derives (roomIn x) n ≡ false
-  lacks hold f e = derives-not n x (λ h. let k = f h in by k e)
+  lacks hold f e = rooms.derives-not n _ _ _ _ _ _ _ (λ h. omega (arith, by (f h) e))
     where
       by : hold ≡ true → hold ≡ false → _≡_ {A = ℕ} 0 1
       by p q = cc
@@ -140,13 +93,7 @@ module _ (n : ℕ) (t : List ℕ) (x : Tables) (here : RowsHere t n) where
   -- ---- `build_bone_tags`
 
   hold-tags : Enough n x → tagsHold n (length t) (length (x .buckets)) (length (x .entries)) ≡ true
-  unfolding tagsHold
-  hold-tags h =
-      rw (
-        le-leb (21 * n) (length t) (here .rows),
-        le-leb (bucketCount n) (length (x .buckets)) (h .buckets),
-        le-leb (3 * entryCount n) (length (x .entries)) (h .entries),
-      )
+  hold-tags = rooms.enough-tags n _ _ _ _ _ _ _ (length t) (here .rows)
 
   pub tags-stop :
       {r : Tagged} {y : Refusal} → taggedOf r ≡ tagsResult n (length t) (length (x .buckets)) (length (x .entries)) → r ≡
@@ -170,13 +117,7 @@ module _ (n : ℕ) (t : List ℕ) (x : Tables) (here : RowsHere t n) where
   -- ---- `build_transformations`
 
   hold-matrices : Enough n x → matricesHold n (length t) (length (x .inverse)) (length (x .local)) ≡ true
-  unfolding matricesHold
-  hold-matrices h =
-      rw (
-        le-leb (21 * n) (length t) (here .rows),
-        le-leb (16 * n) (length (x .inverse)) (h .inverse),
-        le-leb (16 * n) (length (x .local)) (h .local),
-      )
+  hold-matrices h = holds-all n (length t) (length (x .inverse)) (length (x .local)) (here .rows) (h .inverse) (h .local)
 
   pub matrices-stop :
       {r : Transformed} {y : Refusal} → transformedOf r ≡ matricesResult n (length t) (length (x .inverse)) (length (x .local))
@@ -204,14 +145,7 @@ module _ (n : ℕ) (t : List ℕ) (x : Tables) (here : RowsHere t n) where
   indicesGive = indicesResult n t (length (x .parents)) (length (x .children)) (length (x .pending))
 
   hold-indices : Enough n x → indicesRoom ≡ true
-  unfolding indicesHold
-  hold-indices h =
-      rw (
-        le-leb (21 * n) (length t) (here .rows),
-        le-leb n (length (x .parents)) (h .parents),
-        le-leb (8 * (n + 1)) (length (x .children)) (h .children),
-        le-leb (2 * (4 * (n + 1))) (length (x .pending)) (h .pending),
-      )
+  hold-indices = rooms.enough-indices n _ _ _ _ _ _ _ (length t) (here .rows)
 
   pub indices-stop :
       {r : Indexed} {y : Refusal} → indexedOf r ≡ indicesGive → r ≡ indexed.Refused y → refused (number y) ≡ derivedIn (roomIn
@@ -286,7 +220,7 @@ module _ (n : ℕ) (t : List ℕ) (x : Tables) (here : RowsHere t n) where
       let p = rw (← (ap indexedOf (sym q₃) ∙ e₃)) at hp in
       let w = rw (← (ap indexedOf (sym q₃) ∙ e₃)) at hc in
       record {
-        answer = rw (enough-derives n x room, i .1);
+        answer = rw (rooms.enough-derives n _ _ _ _ _ _ _ room, i .1);
         rows =
             record {
               headsHold = omega (arith, room .buckets, s .buckets);

@@ -1,6 +1,6 @@
 -- What the writer answers and leaves (document 01, "Who can cause a refusal": writing tests 2, 4, 1, 3, 5). Definitions only.
 use mathlib.Core.Path.{_≡_}
-use Prim.Native.Nat.{ℕ, _*_, _/_}
+use Prim.Native.Nat.{ℕ, _*_}
 use mathlib.Core.List.{List}
 use lib.ListN.{length}
 use lib.Seq.{sets}
@@ -27,19 +27,6 @@ outcome lent room size n t free = do
   u2 ← need 2 (leb n 65535)
   u1 ← need 1 (leb (boneWidth * n) (length t))
   written lent room size (bonesOf n t) free
-
--- the rows of working tables of so many words: an entry has three, a matrix sixteen, a pending row two
-abbrev pub roomOf : ℕ → ℕ → ℕ → ℕ → ℕ → ℕ → ℕ → DeriveRoom
-roomOf buckets entries inverse local parents children pending =
-    record {
-      buckets = buckets;
-      entries = entries / 3;
-      inverse = inverse / 16;
-      local = local / 16;
-      parents = parents;
-      children = children;
-      pending = pending / 2;
-    }
 
 -- the code's answer as a result: the number of bytes
 abbrev pub writtenOf : Written → Res ℕ

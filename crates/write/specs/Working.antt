@@ -9,8 +9,9 @@ use Rattle.format.specs.Chains.{bucketCount, entryCount}
 use Rattle.format.specs.Matrices.{inverses, locals}
 use Rattle.format.specs.Deriving.{tags, parents, DeriveRoom, bucketRows, entryRows}
 use Rattle.format.specs.Rows.{entryWords, laid, bonesOf, cleared}
+use Rattle.derive.specs.Rooms.{roomOf}
 use Rattle.write.specs.Filling.{kidsOf}
-use Rattle.write.specs.Outcome.{roomOf, derivedIn}
+use Rattle.write.specs.Outcome.{derivedIn}
 use Rattle.write.specs.declared.working.Derived.{Derived}
 use Rattle.write.specs.declared.working.Derived.the-variants.{Children, Refused}
 

@@ -2,7 +2,7 @@
 // the other, each ended by a zero").
 ghost use mathlib.Core.Path.{_≡_};
 ghost use Prim.Native.Nat.{_+_, _*_, _≤_};
-ghost use lib.ListN.{length};
+ghost use lib.ListN.{length, take, drop};
 ghost use lib.Seq.{sets};
 ghost use Rattle.format.specs.Rows.{boneOf, bonesOf};
 ghost use Rattle.format.specs.Layout.{allNames};
@@ -25,18 +25,43 @@ pub enum Measured {
     Bad,
 }
 
-// Whether no byte is zero.
+// Whether none of the k bytes from `at` on is zero. The loop has no other way out, so that many bytes are tested at once.
+fn no_zero_run(s: &[u8], at: usize, k: usize) -> bool
+    requires { ⌜ at + k ≤ length (now s) ⌝ }
+    ensures answer { λ r. ⌜ r ≡ noZero (take k (drop at (now (s .entry)))) ⌝ }
+{
+    let mut good = true;
+    let mut i = 0;
+    while i < k {
+        good = good & (s[at + i] != 0);
+        i += 1;
+    }
+    good
+}
+
+// Whether no byte is zero, by the first k bytes and the last k.
+fn no_zero_ends(s: &[u8], k: usize) -> bool
+    requires { ⌜ (k ≤ length (now s)) × (length (now s) ≤ 2 * k) ⌝ }
+    ensures answer { λ r. ⌜ r ≡ noZero (now (s .entry)) ⌝ }
+{
+    no_zero_run(s, 0, k) & no_zero_run(s, s.len() - k, k)
+}
+
+// Whether no byte is zero. Names have mostly 4 to 32 bytes: these are tested without a loop.
 fn no_zero(s: &[u8]) -> bool
     ensures answer { λ r. ⌜ r ≡ noZero (now (s .entry)) ⌝ }
 {
-    let mut i = 0;
-    while i < s.len() {
-        if s[i] == 0 {
-            return false;
-        }
-        i += 1;
+    let n = s.len();
+    if n < 4 || n > 32 {
+        return no_zero_run(s, 0, n);
     }
-    true
+    if n < 8 {
+        return no_zero_ends(s, 4);
+    }
+    if n < 16 {
+        return no_zero_ends(s, 8);
+    }
+    no_zero_ends(s, 16)
 }
 
 // Whether the writer takes the name of a row: no name is good.

@@ -1,7 +1,7 @@
 // Words, 16-bit numbers and bytes stored one behind the other in a lent buffer. The callers know that there is room.
 ghost use mathlib.Core.Path.{_≡_};
 ghost use Prim.Native.Nat.{_+_, _*_, _≤_};
-ghost use lib.ListN.{length, replicate};
+ghost use lib.ListN.{length, take, drop, replicate};
 ghost use lib.Seq.{sets};
 ghost use Rattle.format.specs.Field.{bytes, wordBytes};
 
@@ -55,16 +55,57 @@ pub(crate) fn put_halves(d: &mut [u8], at: usize, h: &[u16])
     }
 }
 
-// Bytes as they are.
+// k bytes, those of s from `from` on.
+fn put_run(d: &mut [u8], at: usize, s: &[u8], from: usize, k: usize)
+    requires { ⌜ (from + k ≤ length (now s)) × (at + k ≤ length (now d)) ⌝ }
+    ensures bytes { λ _. ⌜ now (d .exit) ≡ sets (now (d .entry)) at (take k (drop from (now (s .entry)))) ⌝ }
+{
+    let mut i = 0;
+    while i < k {
+        d[at + i] = s[from + i];
+        i += 1;
+    }
+}
+
+// The same by a copy, which cannot overlap the buffer, so that 4, 8 or 16 bytes are loaded and stored at once.
+fn put_few(d: &mut [u8], at: usize, s: &[u8], from: usize, k: usize)
+    requires { ⌜ (from + k ≤ length (now s)) × (at + k ≤ length (now d)) × (k ≤ 16) ⌝ }
+    ensures bytes { λ _. ⌜ now (d .exit) ≡ sets (now (d .entry)) at (take k (drop from (now (s .entry)))) ⌝ }
+{
+    let mut b = [0u8; 16];
+    put_run(&mut b, 0, s, from, k);
+    put_run(d, at, &b, 0, k);
+}
+
+// Bytes as they are, by the first k and the last k.
+fn put_ends(d: &mut [u8], at: usize, s: &[u8], k: usize)
+    requires { ⌜ (k ≤ length (now s)) × (length (now s) ≤ 2 * k) × (k ≤ 16) × (at + length (now s) ≤ length (now d)) ⌝ }
+    ensures bytes { λ _. ⌜ now (d .exit) ≡ sets (now (d .entry)) at (now (s .entry)) ⌝ }
+{
+    let last = s.len() - k;
+    put_few(d, at, s, 0, k);
+    put_few(d, at + last, s, last, k);
+}
+
+// Bytes as they are. Names have mostly 4 to 32 bytes: these are stored without a loop.
 pub(crate) fn put_bytes(d: &mut [u8], at: usize, s: &[u8])
     requires { ⌜ at + length (now s) ≤ length (now d) ⌝ }
     ensures bytes { λ _. ⌜ now (d .exit) ≡ sets (now (d .entry)) at (now (s .entry)) ⌝ }
 {
-    let mut i = 0;
-    while i < s.len() {
-        d[at + i] = s[i];
-        i += 1;
+    let n = s.len();
+    if n < 4 || n > 32 {
+        put_run(d, at, s, 0, n);
+        return;
     }
+    if n < 8 {
+        put_ends(d, at, s, 4);
+        return;
+    }
+    if n < 16 {
+        put_ends(d, at, s, 8);
+        return;
+    }
+    put_ends(d, at, s, 16);
 }
 
 // n zero bytes.

@@ -1,12 +1,8 @@
 -- `matrices::matrices::inverse_words` meets its contract: what the calls ensure, put together. Assumes nothing.
 use borrow.Author.Needs.{needs}
-use Rattle.bones.proofs.Rows.{length-bones-of}
 use Rattle.matrices.proofs.MatrixWords.{inverse-made}
 use Rattle.matrices.proofs.matrices.inverse_words.Statement.{statement}
 use Rattle.matrices.proofs.matrices.inverse_words.Tie as tie
-
-walked-requires : tie.Need-walked-requires
-walked-requires c κs = search needs
 
 from-quat-pos-requires : tie.Need-from-quat-pos-requires
 from-quat-pos-requires c κs = search needs
@@ -30,16 +26,12 @@ array-write-w-4 : tie.Need-array-write-w-4
 array-write-w-4 c = search needs
 
 returns : tie.Need-returns
-returns c =
-    let a = c .before .before .before in
-    inverse-made _ _ _ _ _ _ _ (length-bones-of _ _) (a .walked .ensures) (c .before .before .from-quat-pos .ensures)
-    (c .before .inverse .ensures) (c .words .ensures)
+returns c = inverse-made _ _ _ _ (c .before .before .from-quat-pos .ensures) (c .before .inverse .ensures) (c .words .ensures)
 
 pub inverse-words-spec : {M : Type 1} → statement M
 inverse-words-spec =
     tie.close
     (tie.spec
-    walked-requires
     from-quat-pos-requires
     inverse-requires
     words-requires

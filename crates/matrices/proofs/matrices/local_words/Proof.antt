@@ -4,9 +4,6 @@ use Rattle.matrices.proofs.MatrixWords.{local-made}
 use Rattle.matrices.proofs.matrices.local_words.Statement.{statement}
 use Rattle.matrices.proofs.matrices.local_words.Tie as tie
 
-joint-in-requires : tie.Need-joint-in-requires
-joint-in-requires c κs = search needs
-
 from-quat-pos-requires : tie.Need-from-quat-pos-requires
 from-quat-pos-requires c κs = search needs
 
@@ -41,7 +38,7 @@ returns : tie.Need-returns
 returns c =
     let k = c .before .before in
     let s = k .before .before .before .before .before .before .before in
-    local-made _ _ _ _ _ _ _ _ (s .before .before .before .joint-in .ensures) (s .before .before .from-quat-pos .ensures)
+    local-made _ _ _ _ _ _ _ _ (s .before .before .before .before .pre) (s .before .before .from-quat-pos .ensures)
     (s .before .scale-vector .ensures) (s .scale-at .ensures) (k .kept-at .ensures) (c .before .with-scale-vector .ensures)
     (c .words .ensures)
 
@@ -49,7 +46,6 @@ pub local-words-spec : {M : Type 1} → statement M
 local-words-spec =
     tie.close
     (tie.spec
-    joint-in-requires
     from-quat-pos-requires
     scale-vector-requires
     scale-at-requires

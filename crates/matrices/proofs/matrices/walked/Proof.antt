@@ -5,29 +5,23 @@ use Prim.Native.Nat.{_≤_, _-_}
 use mathlib.Core.Path.{_≡_, sym, _∙_}
 use native.Mathlib.Omega.{arith}
 use borrow.Author.Tests.{ltb-true, ltb-false}
-use Rattle.format.specs.Matrices.{walk, poseOf}
+use Rattle.format.specs.Matrices.{walk}
 use Rattle.format.specs.Rows.{bonesOf}
-use Rattle.bones.specs.Row.{rowAt}
 use Rattle.matrices.proofs.Walking.{walk-starts, walk-turn, walk-spent, walk-outside, walk-negative}
 use Rattle.matrices.proofs.matrices.walked.Statement.{statement}
 use Rattle.matrices.proofs.matrices.walked.Tie as tie
 
 abbrev Inv-loop : tie.InvT-loop
-Inv-loop bones n at position₀ rotation₀ p₀ steps₀ position rotation p steps =
-    (steps ≤ n)
-    × (walk (bonesOf n bones) (n - steps) p (record { position = position; rotation = rotation })
-    ≡ walk (bonesOf n bones) n (rowAt bones at .parent) (poseOf (rowAt bones at)))
+Inv-loop bones n plain position₀ rotation₀ p₀ steps₀ position rotation p steps =
+    (walk (bonesOf n bones) (n - steps) p (record { position = position; rotation = rotation })
+    ≡ walk (bonesOf n bones) n p₀ (record { position = position₀; rotation = rotation₀ }))
+    × (steps ≤ n)
 
 abbrev μ-loop : tie.MeasureT-loop
-μ-loop bones n at position₀ rotation₀ p₀ steps₀ position rotation p steps = n - steps
-
-joint-in-requires : tie.Need-joint-in-requires Inv-loop μ-loop
-joint-in-requires c κs = omega arith
+μ-loop bones n plain position₀ rotation₀ p₀ steps₀ position rotation p steps = n - steps
 
 loop-holds : tie.Need-loop-holds Inv-loop μ-loop
-loop-holds c =
-    let j = c .before .before in
-    (search needs, walk-starts _ _ (j .before .before .args .at) _ (j .joint-in .ensures))
+loop-holds c = (walk-starts _ _ _ _, omega arith)
 
 cast-if1 : tie.Need-cast-if1 Inv-loop μ-loop
 cast-if1 c = omega arith
@@ -35,8 +29,12 @@ cast-if1 c = omega arith
 cast-joint-in : tie.Need-cast-joint-in Inv-loop μ-loop
 cast-joint-in c = omega arith
 
-joint-in-requires-2 : tie.Need-joint-in-requires-2 Inv-loop μ-loop
-joint-in-requires-2 c κs = omega (arith, ltb-true)
+joint-in-requires : tie.Need-joint-in-requires Inv-loop μ-loop
+joint-in-requires c κs =
+    record { below = ltb-true _ _ (c .before .if1 .taken); table = c .before .before .before .before .before .before .before .pre }
+
+quat-mul-requires : tie.Need-quat-mul-requires Inv-loop μ-loop
+quat-mul-requires c κs = search needs
 
 quat-rotate-requires : tie.Need-quat-rotate-requires Inv-loop μ-loop
 quat-rotate-requires c κs = search needs
@@ -44,13 +42,10 @@ quat-rotate-requires c κs = search needs
 add-requires : tie.Need-add-requires Inv-loop μ-loop
 add-requires c κs = search needs
 
-quat-mul-requires : tie.Need-quat-mul-requires Inv-loop μ-loop
-quat-mul-requires c κs = search needs
-
 add-steps : tie.Need-add-steps Inv-loop μ-loop
 add-steps c =
     let l = c .before .before .before .before .before .before .before in
-    omega (arith, ltb-true, l .before .before .before .before .before .fits .n)
+    omega (arith, ltb-true, l .before .before .before .before .fits .n)
 
 loop-less : tie.Need-loop-less Inv-loop μ-loop
 loop-less c = omega (arith, ltb-true)
@@ -59,23 +54,22 @@ loop-again : tie.Need-loop-again Inv-loop μ-loop
 loop-again c =
     let m = c .before .before .before in
     let h = m .before in (
-      omega (arith, ltb-true),
       walk-turn _ _ _ _ _ _ _ _ _ _ _ (h .before .before .loop-test .taken) (ltb-true _ _ (h .before .if1 .taken))
-          (ltb-true _ _ (h .if2 .taken)) (m .joint-in2 .ensures) (c .before .before .quat-rotate .ensures)
-          (c .before .add .ensures)
-          (c .quat-mul .ensures) (h .before .before .before .loop .inv .1),
+          (ltb-true _ _ (h .if2 .taken)) (m .joint-in .ensures) (c .before .quat-rotate .ensures) (c .add .ensures)
+          (c .before .before .quat-mul .ensures) (h .before .before .before .loop .inv .0),
+      omega (arith, ltb-true),
     )
 
 returns : tie.Need-returns Inv-loop μ-loop
-returns c = sym (walk-spent _ _ _ _ _ (ltb-false _ _ (c .if2 .left))) ∙ c .before .before .before .loop .inv .1
+returns c = sym (walk-spent _ _ _ _ _ (ltb-false _ _ (c .if2 .left))) ∙ c .before .before .before .loop .inv .0
 
 returns-2 : tie.Need-returns-2 Inv-loop μ-loop
 returns-2 c =
     let t = c .before in
-    sym (walk-outside _ _ _ _ _ (t .loop-test .taken) (ltb-false _ _ (c .if1 .left))) ∙ t .before .loop .inv .1
+    sym (walk-outside _ _ _ _ _ (t .loop-test .taken) (ltb-false _ _ (c .if1 .left))) ∙ t .before .loop .inv .0
 
 returns-3 : tie.Need-returns-3 Inv-loop μ-loop
-returns-3 c = sym (walk-negative _ _ _ _ _ (c .loop-test .left)) ∙ c .before .loop .inv .1
+returns-3 c = sym (walk-negative _ _ _ _ _ (c .loop-test .left)) ∙ c .before .loop .inv .0
 
 pub walked-spec : {M : Type 1} → statement M
 walked-spec =
@@ -83,14 +77,13 @@ walked-spec =
     (tie.spec
     Inv-loop
     μ-loop
-    joint-in-requires
     loop-holds
     cast-if1
     cast-joint-in
-    joint-in-requires-2
+    joint-in-requires
+    quat-mul-requires
     quat-rotate-requires
     add-requires
-    quat-mul-requires
     add-steps
     loop-less
     loop-again

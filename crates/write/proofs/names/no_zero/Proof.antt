@@ -1,48 +1,44 @@
--- `write::names::no_zero` meets its contract. The loop's invariant: the bytes before the i-th are not zero. Assumes nothing.
+-- `write::names::no_zero` meets its contract. Assumes nothing.
 use borrow.Author.Needs.{needs}
-use Prim.Native.Nat.{_-_}
-use lib.ListN.{length}
-use Rattle.write.proofs.Naming.{Passed, passed-none, passed-more, passed-zero, passed-all}
+use mathlib.Core.Path.{ap, _∙_}
+use lib.Seq.{take-length}
+use Rattle.format.specs.Write.{noZero}
 use Rattle.write.proofs.names.no_zero.Statement.{statement}
 use Rattle.write.proofs.names.no_zero.Tie as tie
 
-abbrev Inv-loop : tie.InvT-loop
-Inv-loop s i₀ i = Passed s i
+no-zero-run-requires : tie.Need-no-zero-run-requires
+no-zero-run-requires c κs = search needs
 
-abbrev μ-loop : tie.MeasureT-loop
-μ-loop s i₀ i = length s - i
+returns : tie.Need-returns
+returns c = c .no-zero-run .ensures ∙ ap noZero (take-length (c .before .before .before .args .s .now))
 
-loop-holds : tie.Need-loop-holds Inv-loop μ-loop
-loop-holds c = passed-none _
+no-zero-ends-requires : tie.Need-no-zero-ends-requires
+no-zero-ends-requires c κs = search needs
 
-shared-slice-read-if1 : tie.Need-shared-slice-read-if1 Inv-loop μ-loop
-shared-slice-read-if1 c = search needs
+returns-2 : tie.Need-returns-2
+returns-2 c = search needs
 
-returns : tie.Need-returns Inv-loop μ-loop
-returns c = passed-zero (c .before .before .before .loop .inv) (c .before .before .loop-test .taken) (c .if1 .taken)
+no-zero-ends-requires-2 : tie.Need-no-zero-ends-requires-2
+no-zero-ends-requires-2 c κs = search needs
 
-add-i : tie.Need-add-i Inv-loop μ-loop
-add-i c = search needs
+returns-3 : tie.Need-returns-3
+returns-3 c = search needs
 
-loop-less : tie.Need-loop-less Inv-loop μ-loop
-loop-less c = search needs
+no-zero-ends-requires-3 : tie.Need-no-zero-ends-requires-3
+no-zero-ends-requires-3 c κs = search needs
 
-loop-again : tie.Need-loop-again Inv-loop μ-loop
-loop-again c = passed-more (c .before .before .before .loop .inv) (c .before .before .loop-test .taken) (c .if1 .left)
-
-returns-2 : tie.Need-returns-2 Inv-loop μ-loop
-returns-2 c = passed-all (c .before .loop .inv) (c .loop-test .left)
+returns-4 : tie.Need-returns-4
+returns-4 c = search needs
 
 pub no-zero-spec : {M : Type 1} → statement M
 no-zero-spec =
     tie.close
     (tie.spec
-    Inv-loop
-    μ-loop
-    loop-holds
-    shared-slice-read-if1
+    no-zero-run-requires
     returns
-    add-i
-    loop-less
-    loop-again
-    returns-2)
+    no-zero-ends-requires
+    returns-2
+    no-zero-ends-requires-2
+    returns-3
+    no-zero-ends-requires-3
+    returns-4)

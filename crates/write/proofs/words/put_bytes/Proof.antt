@@ -1,56 +1,61 @@
--- `write::words::put_bytes` meets its contract. The loop's invariant: the first i bytes are stored. Assumes nothing.
+-- `write::words::put_bytes` meets its contract. Assumes nothing.
 use borrow.Author.Needs.{needs}
-use Prim.Native.Nat.{_-_}
-use lib.ListN.{length}
-use Rattle.bones.proofs.Words.{Pasted, pasted-none, pasted-more, pasted-all}
+use mathlib.Core.Path.{ap, _∙_}
+use lib.Seq.{sets, take-length}
 use Rattle.write.proofs.words.put_bytes.Statement.{statement}
 use Rattle.write.proofs.words.put_bytes.Tie as tie
 
-abbrev Inv-loop : tie.InvT-loop
-Inv-loop d₀ at s i₀ d i = Pasted d₀ at s d i
+put-run-requires : tie.Need-put-run-requires
+put-run-requires c κs = search needs
 
-abbrev μ-loop : tie.MeasureT-loop
-μ-loop d₀ at s i₀ d i = length s - i
-
-loop-holds : tie.Need-loop-holds Inv-loop μ-loop
-loop-holds c = pasted-none _ _ _
-
-shared-slice-read-d : tie.Need-shared-slice-read-d Inv-loop μ-loop
-shared-slice-read-d c = search needs
-
-add-d : tie.Need-add-d Inv-loop μ-loop
-add-d c = search needs
-
-slice-write-d : tie.Need-slice-write-d Inv-loop μ-loop
-slice-write-d c = search needs
-
-add-i : tie.Need-add-i Inv-loop μ-loop
-add-i c = search needs
-
-loop-less : tie.Need-loop-less Inv-loop μ-loop
-loop-less c = search needs
-
-loop-again : tie.Need-loop-again Inv-loop μ-loop
-loop-again c = pasted-more (c .before .before .before .pre) (c .before .before .loop .inv) (c .before .loop-test .taken)
-
-same-length : tie.Need-same-length Inv-loop μ-loop
+same-length : tie.Need-same-length
 same-length c = search needs
 
-returns : tie.Need-returns Inv-loop μ-loop
-returns c = pasted-all (c .before .before .pre) (c .before .loop .inv) (c .loop-test .left)
+returns : tie.Need-returns
+returns c =
+    let s = c .before .before .before .before .before .before .before in
+    c .before .before .put-run .ensures ∙ ap (sets (s .args .d .now) (s .args .at)) (take-length (s .args .s .now))
+
+put-ends-requires : tie.Need-put-ends-requires
+put-ends-requires c κs = search needs
+
+same-length-2 : tie.Need-same-length-2
+same-length-2 c = search needs
+
+returns-2 : tie.Need-returns-2
+returns-2 c = search needs
+
+put-ends-requires-2 : tie.Need-put-ends-requires-2
+put-ends-requires-2 c κs = search needs
+
+same-length-3 : tie.Need-same-length-3
+same-length-3 c = search needs
+
+returns-3 : tie.Need-returns-3
+returns-3 c = search needs
+
+put-ends-requires-3 : tie.Need-put-ends-requires-3
+put-ends-requires-3 c κs = search needs
+
+same-length-4 : tie.Need-same-length-4
+same-length-4 c = search needs
+
+returns-4 : tie.Need-returns-4
+returns-4 c = search needs
 
 pub put-bytes-spec : {M : Type 1} → statement M
 put-bytes-spec =
     tie.close
     (tie.spec
-    Inv-loop
-    μ-loop
-    loop-holds
-    shared-slice-read-d
-    add-d
-    slice-write-d
-    add-i
-    loop-less
-    loop-again
+    put-run-requires
     same-length
-    returns)
+    returns
+    put-ends-requires
+    same-length-2
+    returns-2
+    put-ends-requires-2
+    same-length-3
+    returns-3
+    put-ends-requires-3
+    same-length-4
+    returns-4)

@@ -1,0 +1,30 @@
+-- Answers as numbers, for C and Rust: a status, 0 or document 01's number, and a count. Definitions only.
+use Prim.Native.Nat.{ℕ}
+use mathlib.Core.Bool.{Bool, true, false}
+use mathlib.Core.Option.{Option, none, some}
+use Rattle.format.specs.Result.{Res, refused, done}
+
+-- 0 where the call is done, else the refusal's number
+abbrev pub status : {A : Type 0} → Res A → ℕ
+status (done a) = 0
+status (refused n) = n
+
+-- the count, 0 after a refusal
+abbrev pub counted : Res ℕ → ℕ
+counted (done n) = n
+counted (refused c) = 0
+
+-- the status of a reading: 100 for none, where the root address is 0
+abbrev pub readStatus : {A : Type 0} → Res (Option A) → ℕ
+readStatus (done (some a)) = 0
+readStatus (done none) = 100
+readStatus (refused n) = n
+
+-- 1 or 0, by whether a list stands
+abbrev pub numberIf : Bool → ℕ
+numberIf true = 1
+numberIf false = 0
+
+abbrev pub stands : {A : Type 0} → Option A → Bool
+stands none = false
+stands (some l) = true

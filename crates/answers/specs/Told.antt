@@ -1,0 +1,51 @@
+-- What the exports say of a skeleton's section that is read or written, in numbers. Definitions only.
+use Prim.Native.Nat.{ℕ}
+use mathlib.Core.Path.{_≡_}
+use mathlib.Core.Option.{Option, none, some}
+use mathlib.Core.List.{List, [], _∷_}
+use lib.ListN.{replicate, getD}
+use Rattle.format.specs.Result.{Res, refused, done}
+use Rattle.format.specs.Bone.{Words4, words4}
+use Rattle.format.specs.Layout.{Bytes}
+use Rattle.format.specs.Tables.{Rows, SkeletonRow}
+use Rattle.format.specs.Read.{Step}
+use Rattle.read.specs.Lent.{Lent}
+use Rattle.read.specs.Reads as reading
+use Rattle.write.specs.Outcome as writing
+use Rattle.answers.specs.Answer.{status, counted, readStatus, numberIf, stands}
+
+-- ---- reading
+
+-- how long a part is, 0 where it does not stand
+abbrev pub partLength : Option Rows → ℕ
+partLength none = 0
+partLength (some r) = r .count
+
+-- the kind word, the four free words, the three stored counts, and of each part whether it stands and how long it is; zeros where
+-- nothing is read
+abbrev pub skeletonFields : Res (Option SkeletonRow) → List ℕ
+skeletonFields (refused n) = replicate 20 0
+skeletonFields (done none) = replicate 20 0
+skeletonFields (done (some s)) =
+    s .kind ∷ s .free .x ∷ s .free .y ∷ s .free .z ∷ s .free .w ∷ s .bucketCount ∷ s .boneCount ∷ s .childCount ∷
+    numberIf (stands (s .buckets)) ∷ partLength (s .buckets) ∷ numberIf (stands (s .bones)) ∷ partLength (s .bones) ∷
+    numberIf (stands (s .inverse)) ∷ partLength (s .inverse) ∷ numberIf (stands (s .local)) ∷ partLength (s .local) ∷
+    numberIf (stands (s .parents)) ∷ partLength (s .parents) ∷ numberIf (stands (s .children)) ∷ partLength (s .children) ∷ []
+
+-- the status, the fields and the tables that the reading g leaves, where the tables were t₀
+pub record ReadTold (g : Step (Option SkeletonRow)) (r : ℕ) (numbers : List ℕ) (t₀ t : Lent) : Type 0 where
+  pub answer : r ≡ readStatus (reading.answerOf g)
+  pub fields : numbers ≡ skeletonFields (reading.answerOf g)
+  pub tables : t ≡ reading.leaves g t₀
+
+-- ---- writing
+
+-- the four free words of a list
+abbrev pub freeOf : List ℕ → Words4
+freeOf f = words4 (getD f 0 0) (getD f 1 0) (getD f 2 0) (getD f 3 0)
+
+-- the status, the count of bytes and the buffer that the outcome w leaves, where the buffer was out
+pub record WriteTold (w : Res Bytes) (r n : ℕ) (out out′ : List ℕ) : Type 0 where
+  pub answer : r ≡ status (writing.sizeOf w)
+  pub count : n ≡ counted (writing.sizeOf w)
+  pub buffer : out′ ≡ writing.leaves w out

@@ -1,0 +1,26 @@
+-- What was read, as the lent tables have it (document 01, "Lookup and check"). Definitions only.
+use Prim.Native.Nat.{ℕ, _<_}
+use mathlib.Core.List.{List}
+use lib.ListN.{getD, take}
+use Rattle.format.specs.Section.{Section}
+use Rattle.format.specs.Rows.{bonesOf}
+use Rattle.format.specs.Check.{Read, chainsAlong}
+use Rattle.agree.specs.Chained.{entriesIn}
+
+-- a section of bytes, as lent slices of them are
+abbrev pub BytesFit : Section → Type 0
+BytesFit sec = ((i : ℕ) → getD (sec .system) i 0 < 256) × ((i : ℕ) → getD (sec .graphics) i 0 < 256)
+
+-- The first n bones of their table, the chains of the first nb buckets, and the first words of each list. What is absent counts 0.
+abbrev pub readIn :
+    (n : ℕ) (bones : List ℕ) (nb : ℕ) (buckets entries : List ℕ) (ni : ℕ) (inverse : List ℕ) (nl : ℕ) (local : List ℕ) (np : ℕ)
+    (parents : List ℕ) (nc : ℕ) (children : List ℕ) → Read
+readIn n bones nb buckets entries ni inverse nl local np parents nc children =
+    record {
+      bones = bonesOf n bones;
+      chains = chainsAlong (entriesIn entries) n (take nb buckets);
+      parents = take np parents;
+      children = take nc children;
+      inverse = take ni inverse;
+      local = take nl local;
+    }

@@ -1,0 +1,13 @@
+-- What a lookup's answer says (document 01, "Lookup and check"). Definitions only.
+use Prim.Native.Nat.{ℕ}
+use mathlib.Core.Option.{Option, none, some}
+use Rattle.format.specs.Result.{Res, refused, done}
+use Rattle.format.specs.Refusal.{number}
+use Rattle.lookup.specs.declared.Looked.{Looked}
+use Rattle.lookup.specs.declared.Looked.the-variants.{Found, Nothing, Refused}
+
+-- the position found, none, or document 01's number
+abbrev pub lookedOf : Looked → Res (Option ℕ)
+lookedOf (Found p) = done (some p)
+lookedOf Nothing = done none
+lookedOf (Refused r) = refused (number r)

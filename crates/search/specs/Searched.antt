@@ -1,0 +1,33 @@
+-- What a search's answer says (document 01, "Joints and names"). Definitions only.
+use Prim.Native.Nat.{ℕ}
+use mathlib.Core.Option.{Option, none, some}
+use mathlib.Core.List.{List}
+use Rattle.format.specs.Result.{Res, refused, done}
+use Rattle.format.specs.Refusal.{number}
+use Rattle.format.specs.Section.{Section}
+use Rattle.format.specs.Rows.{bonesOf}
+use Rattle.format.specs.Search.{firstKey}
+use Rattle.named.specs.First.{namesIn}
+use Rattle.read.specs.declared.Part.{Part}
+use Rattle.read.specs.declared.Part.the-variants.{Absent, Of}
+use Rattle.read.specs.declared.SkeletonRead.{SkeletonRead}
+use Rattle.read.specs.declared.SkeletonRead.the-variants as R
+use Rattle.search.specs.declared.Searched.{Searched}
+use Rattle.search.specs.declared.Searched.the-variants.{Found, Nothing, Refused}
+
+-- the position found, none, or document 01's number
+abbrev pub searchedOf : Searched → Res (Option ℕ)
+searchedOf (Found p) = done (some p)
+searchedOf Nothing = done none
+searchedOf (Refused r) = refused (number r)
+
+-- how many rows a part has
+abbrev pub partRows : Part → ℕ
+partRows Absent = 0
+partRows (Of n) = n
+
+-- the first of the bones that a reading left in a table
+abbrev pub firstIn : Section → ℕ → List ℕ → SkeletonRead → Res (Option ℕ)
+firstIn sec key t R.Nothing = done none
+firstIn sec key t (R.Read s) = done (firstKey key 0 (namesIn sec (bonesOf (partRows (s .bones)) t)))
+firstIn sec key t (R.Refused x) = refused (number x)

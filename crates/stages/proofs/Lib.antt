@@ -1,0 +1,3 @@
+pub mod Derived
+pub mod Stages
+pub mod Verdict
