@@ -8,8 +8,8 @@ use oracle::Bone;
 use std::path::Path;
 use std::{env, fs, io};
 
-/// Name, parent, tag and translation of each bone. The tags of the head and of both reins leave 27 modulo 29, the bucket
-/// count of 13 bones: they share a chain.
+/// Name, parent, tag and translation of each bone. The tags of the head, both reins and the tail leave 27 modulo 29, the
+/// bucket count of 13 bones: they share a chain.
 const HORSE: [(&str, i16, u16, [f32; 3]); 13] = [
     ("root", -1, 0, [0.0, 0.0, 0.0]),
     ("pelvis", 0, 11816, [0.0, 1.4, -0.5]),

@@ -54,7 +54,7 @@ enum Filled {
 }
 
 // Zeros in every table.
-fn clear_all(
+pub fn clear_all(
     bones: &mut [u32],
     buckets: &mut [u32],
     entries: &mut [u32],

@@ -1,0 +1,18 @@
+// Demand 3 of the calls themselves: statements in `specs/Theorems.antt`, proved in `proofs/`. The one function here shows that what
+// they ask of bytes and words is asked of every argument by its type.
+ghost use Rattle.promises.specs.Meaning.{Fits4};
+ghost use Rattle.write.specs.Placing.{meantFree};
+ghost use Rattle.demand.specs.Typed.{Bytes8, Words32};
+use write::Free;
+
+// A call: at the entry of a function that makes one, the proof is told of the elements of its slices.
+fn nothing() {}
+
+// Every lent slice of bytes holds bytes, every table of u32 words words below 2^32, and so do the four free words.
+pub fn typed(bytes: &[u8], words: &[u32], free: Free)
+    ensures bytes { λ _. ⌜ Bytes8 (now (bytes .entry)) ⌝ }
+    ensures words { λ _. ⌜ Words32 (now (words .entry)) ⌝ }
+    ensures free { λ _. ⌜ Fits4 (meantFree free) ⌝ }
+{
+    nothing();
+}
