@@ -4,7 +4,7 @@ use crate::timing::{timed, Row, Table};
 use cases::limits::{rotation_limit, translation_limit};
 use cases::{rows, Rng};
 use link::{Hash, Joints, DONE};
-use oracle::{joints_write, rage_joaat, PreparedLimits, PreparedSection, RotationLimit, TranslationLimit, SYSTEM_BASE};
+use oracle::{joints_write, rage_joaat, PreparedBlocks, PreparedSection, RotationLimit, TranslationLimit, SYSTEM_BASE};
 
 const SEED: u64 = 1;
 
@@ -25,9 +25,9 @@ fn one_kind(table: &Table, library: &dyn Joints, input: &str, rotations: &[Rotat
     let section = joints_write(rotations, translations).section();
     let row = |call| Row { call, input, units: r + t, unit: "a limit" };
     let (mut out, mut count, mut fields) = (vec![1; section.len()], 0, [0; 7]);
-    let prepared = PreparedLimits::new(rotations, translations);
+    let prepared = PreparedBlocks::of_limits(rotations, translations);
     let ours = || timed(|| assert_eq!(library.joints_write(&rotation, r, &translation, t, &mut out, &mut count), DONE));
-    table.both(&row("joints write"), ours, || timed(|| prepared.joints_write()));
+    table.both(&row("joints write"), ours, || timed(|| prepared.write()));
     let ours = || {
         let (r, t) = (&mut rotation, &mut translation);
         timed(|| assert_eq!(library.joints_read(&section, &[], SYSTEM_BASE, r, t, &mut fields), DONE))

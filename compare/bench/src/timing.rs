@@ -47,6 +47,17 @@ impl Table {
         self.print(row, median(&ours), &format!("{:.1}", median(&rust) / row.units as f64), ratios, times.len());
     }
 
+    /// As `both`, where ours gives two times, of a call and of what it makes that the Rust's call does not: the row is of the
+    /// medians' difference, and of the least times' difference.
+    pub fn rest(&self, row: &Row, mut ours: impl FnMut() -> (Duration, Duration), mut rust: impl FnMut() -> Duration) {
+        let times = repeated(|| (ours(), rust()), |&((a, b), c)| a + b + c);
+        let (whole, aside) = (sorted(times.iter().map(|t| t.0 .0)), sorted(times.iter().map(|t| t.0 .1)));
+        let rust = sorted(times.iter().map(|t| t.1));
+        let [ours, least] = [median(&whole) - median(&aside), whole[0] - aside[0]];
+        let ratios = [ratio(ours, median(&rust)), ratio(least, rust[0])];
+        self.print(row, ours, &format!("{:.1}", median(&rust) / row.units as f64), ratios, times.len());
+    }
+
     /// Times our side alone and prints its row; gives the median of one call.
     pub fn alone(&self, row: &Row, ours: impl FnMut() -> Duration) -> Duration {
         let times = sorted(repeated(ours, |&t| t).into_iter());

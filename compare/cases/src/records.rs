@@ -21,6 +21,7 @@ pub mod bone {
     pub const SIZE: usize = 80;
     pub const PARENT: usize = 50;
     pub const NAME: usize = 56;
+    pub const INDEX: usize = 66;
     pub const TAG: usize = 68;
     pub const SECOND_INDEX: usize = 70;
 }

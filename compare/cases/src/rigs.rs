@@ -52,6 +52,24 @@ pub fn chain(rng: &mut Rng, n: usize) -> Vec<Bone> {
     unlike(rng, n, |_, i| (i as i16).wrapping_sub(1))
 }
 
+/// The most bones of a chain whose child entries can be written: 65,528 of them.
+pub const LONGEST_WRITTEN: usize = 8_192;
+
+/// A rig of up to 65,535 bones: a chain by index of so many, and the other bones the children of nobody. As positions all
+/// parents are few steps from bone 0, so that the published walk and child list stay quick.
+pub fn broad(rng: &mut Rng, n: usize, chain: usize) -> Vec<Bone> {
+    const FIRST: i16 = 20_000;
+    let mut bones = unlike(rng, n, |_, _| 0);
+    for (i, b) in bones.iter_mut().enumerate() {
+        (b.index, b.parent) = match i as i16 {
+            _ if i >= chain => (1, 0),
+            0 => (FIRST, -1),
+            i => (FIRST + i, FIRST + i - 1),
+        };
+    }
+    bones
+}
+
 fn unlike(rng: &mut Rng, n: usize, parent: impl Fn(&mut Rng, usize) -> i16) -> Vec<Bone> {
     let tags = rng.pick(&TAGS);
     (0..n)

@@ -9,6 +9,8 @@ pub const ENTRY: usize = 3;
 pub const MATRIX: usize = 16;
 pub const ROTATION: usize = 55;
 pub const TRANSLATION: usize = 23;
+/// Of 64 bits.
+pub const POOL: usize = 4;
 
 fn pair(lower: u16, upper: u16) -> u32 {
     lower as u32 | (upper as u32) << 16
@@ -22,19 +24,40 @@ fn taken<const N: usize>(row: &[u32], at: usize) -> [u32; N] {
     std::array::from_fn(|i| row[at + i])
 }
 
+/// Where a name lies; address 0 is no name.
+#[derive(Clone, Copy, Debug, Default, PartialEq, Eq)]
+pub struct Place {
+    pub address: u64,
+    pub size: u64,
+}
+
+impl Place {
+    pub fn words(self) -> [u32; 4] {
+        [self.address, self.address >> 32, self.size, self.size >> 32].map(|word| word as u32)
+    }
+
+    /// The place in a bone's row.
+    pub fn of(row: &[u32]) -> Place {
+        let number = |at: usize| row[at] as u64 | (row[at + 1] as u64) << 32;
+        Place { address: number(17), size: number(19) }
+    }
+}
+
+/// A bone's row, `spare` in the upper half of word 12.
+fn bone_row(b: &Bone, spare: u16, name: [u32; 4]) -> [u32; BONE] {
+    let shorts = [pair(b.next_sibling as u16, b.parent as u16), pair(b.flags, b.index as u16), pair(b.tag, spare)];
+    let words = [&b.rotation[..], &b.translation, &b.scale, &shorts, &b.kept, &name].concat();
+    words.try_into().expect("the words of a row")
+}
+
 /// The rows of the bones. What deriving does not look at, the upper half of word 12 and the name's place, is drawn.
 pub fn bones(rng: &mut Rng, bones: &[Bone]) -> Vec<u32> {
-    let mut out = Vec::with_capacity(BONE * bones.len());
-    for b in bones {
-        out.extend(b.rotation);
-        out.extend(b.translation);
-        out.extend(b.scale);
-        out.extend([pair(b.next_sibling as u16, b.parent as u16), pair(b.flags, b.index as u16)]);
-        out.push(pair(b.tag, rng.next() as u16));
-        out.extend(b.kept);
-        out.extend([0; 4].map(|_: u32| rng.next() as u32));
-    }
-    out
+    bones.iter().flat_map(|b| bone_row(b, rng.next() as u16, [0; 4].map(|_: u32| rng.next() as u32))).collect()
+}
+
+/// The rows of the bones with their names at these places, as reading lays them.
+pub fn placed_bones(bones: &[Bone], names: &[Place]) -> Vec<u32> {
+    bones.iter().zip(names).flat_map(|(b, name)| bone_row(b, 0, name.words())).collect()
 }
 
 /// The bone of a row, without its name.

@@ -16,6 +16,13 @@ impl Section {
         Section { system, graphics: Vec::new(), root: SYSTEM_BASE }
     }
 
+    /// Every truncation of either half, the whole section among them.
+    pub fn truncations(&self) -> impl Iterator<Item = Section> + '_ {
+        let cut = |half: &[u8], n: usize| half[..n].to_vec();
+        let system = (0..=self.system.len()).map(move |n| Section { system: cut(&self.system, n), ..self.clone() });
+        system.chain((0..self.graphics.len()).map(move |n| Section { graphics: cut(&self.graphics, n), ..self.clone() }))
+    }
+
     /// The half that an address chooses and the place in it.
     fn locate(&self, va: u64) -> (&[u8], usize) {
         match va & 0xF000_0000 {
@@ -28,6 +35,10 @@ impl Section {
     fn bytes<const N: usize>(&self, va: u64) -> Option<[u8; N]> {
         let (data, at) = self.locate(va);
         data.get(at..at.checked_add(N)?)?.try_into().ok()
+    }
+
+    pub fn u8(&self, va: u64) -> Option<u8> {
+        self.bytes(va).map(u8::from_le_bytes)
     }
 
     pub fn u16(&self, va: u64) -> Option<u16> {

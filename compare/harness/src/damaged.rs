@@ -28,9 +28,7 @@ pub fn truncations(seed: u64, sections: u64) -> Result<Tally, String> {
     let mut tally = Tally::default();
     for seed in seed..seed + sections {
         let (_, whole) = good(&mut Rng::new(seed));
-        let system = (0..=whole.system.len()).map(|n| Section { system: whole.system[..n].to_vec(), ..whole.clone() });
-        let graphics = (0..whole.graphics.len()).map(|n| Section { graphics: whole.graphics[..n].to_vec(), ..whole.clone() });
-        for (i, cut) in system.chain(graphics).enumerate() {
+        for (i, cut) in whole.truncations().enumerate() {
             ask(&mut tally, &cut, i as u32 % 48).map_err(|e| format!("truncation {i}, seed {seed}: {e}"))?;
         }
     }

@@ -1,6 +1,6 @@
 //! Deriving: our library against the published Rust, every word of every lent table compared.
 
-mod input;
+pub mod input;
 mod runs;
 
 pub use runs::run;

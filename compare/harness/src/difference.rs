@@ -1,13 +1,15 @@
 //! Comparing two answers on one input; a difference is shrunk and stored.
 
+use crate::smaller::smaller_bytes;
 use std::fmt::{self, Debug};
 use std::fs;
 use std::path::{Path, PathBuf};
+use std::time::{Duration, Instant};
 
 /// An input that can be made smaller and printed.
 pub trait Input: Clone {
     /// Inputs one step smaller, the greatest steps first.
-    fn smaller(&self) -> Vec<Self>;
+    fn smaller(&self) -> impl Iterator<Item = Self>;
     /// The input for a failure file, a field to a line.
     fn text(&self) -> String;
 }
@@ -30,7 +32,8 @@ pub struct Difference {
 
 impl fmt::Display for Difference {
     fn fmt(&self, f: &mut fmt::Formatter<'_>) -> fmt::Result {
-        write!(f, "DIFFERENCE in {} (seed {}), smallest input in {}:\n{}", self.name, self.seed, self.file.display(), self.text)
+        let file = self.file.display();
+        write!(f, "DIFFERENCE in {} (seed {}), smallest input in {file}:\n{:.4000}", self.name, self.seed, self.text)
     }
 }
 
@@ -40,18 +43,28 @@ impl From<Difference> for String {
     }
 }
 
-/// Ok where both sides give the same answer.
+/// The answer, where both sides give the same.
 pub fn compare<I: Input, A: PartialEq + Debug>(
     place: &Place,
     input: &I,
     ours: impl Fn(&I) -> A,
     rust: impl Fn(&I) -> A,
-) -> Result<(), Difference> {
-    let differs = |i: &I| ours(i) != rust(i);
-    if !differs(input) {
-        return Ok(());
+) -> Result<A, Difference> {
+    compare_known(place, input, rust(input), ours, rust)
+}
+
+/// As `compare`, where the Rust's answer on the input is known.
+pub fn compare_known<I: Input, A: PartialEq + Debug>(
+    place: &Place,
+    input: &I,
+    known: A,
+    ours: impl Fn(&I) -> A,
+    rust: impl Fn(&I) -> A,
+) -> Result<A, Difference> {
+    if ours(input) == known {
+        return Ok(known);
     }
-    let least = shrink(input, differs);
+    let least = shrink(input, |i| ours(i) != rust(i));
     let text = format!("{}ours {:?}\nrust {:?}\n", least.text(), ours(&least), rust(&least));
     fs::create_dir_all(place.folder).expect("the failures folder can be made");
     let file = place.folder.join(format!("{}-{}.txt", place.name, place.seed));
@@ -59,39 +72,20 @@ pub fn compare<I: Input, A: PartialEq + Debug>(
     Err(Difference { name: place.name.into(), seed: place.seed, file, text })
 }
 
+/// How long smaller inputs are looked for.
+const PATIENCE: Duration = Duration::from_secs(60);
+
 /// Takes smaller inputs for as long as one of them still differs.
 fn shrink<I: Input>(input: &I, differs: impl Fn(&I) -> bool) -> I {
-    let mut least = input.clone();
-    while let Some(next) = least.smaller().into_iter().find(|i| differs(i)) {
-        least = next;
-    }
-    least
-}
-
-/// Byte strings one step smaller: cut short, then with bytes made 0, then with one byte lowered.
-pub fn smaller_bytes(bytes: &[u8]) -> Vec<Vec<u8>> {
-    let n = bytes.len();
-    let mut lengths = vec![n / 2, n - n / 4, n.saturating_sub(16), n.saturating_sub(1)];
-    lengths.retain(|&l| l < n);
-    let mut out: Vec<Vec<u8>> = lengths.into_iter().map(|l| bytes[..l].to_vec()).collect();
-    for run in [64, 16, 4, 1] {
-        for start in (0..n).step_by(run) {
-            let range = start..n.min(start + run);
-            if bytes[range.clone()].iter().any(|&b| b != 0) {
-                let mut zeroed = bytes.to_vec();
-                zeroed[range].fill(0);
-                out.push(zeroed);
-            }
+    let (mut least, start) = (input.clone(), Instant::now());
+    let patient = |_: &I| start.elapsed() < PATIENCE;
+    loop {
+        let next = least.smaller().take_while(patient).find(&differs);
+        match next {
+            Some(next) => least = next,
+            None => return least,
         }
     }
-    for at in (0..n).filter(|&at| bytes[at] > 1) {
-        for lower in [bytes[at] / 2, bytes[at] - 1] {
-            let mut lowered = bytes.to_vec();
-            lowered[at] = lower;
-            out.push(lowered);
-        }
-    }
-    out
 }
 
 pub fn hex(bytes: &[u8]) -> String {
@@ -99,10 +93,9 @@ pub fn hex(bytes: &[u8]) -> String {
 }
 
 impl Input for cases::Section {
-    fn smaller(&self) -> Vec<Self> {
-        let system = smaller_bytes(&self.system).into_iter().map(|system| cases::Section { system, ..self.clone() });
-        let graphics = smaller_bytes(&self.graphics).into_iter().map(|graphics| cases::Section { graphics, ..self.clone() });
-        graphics.chain(system).collect()
+    fn smaller(&self) -> impl Iterator<Item = Self> {
+        let system = smaller_bytes(&self.system).map(|system| cases::Section { system, ..self.clone() });
+        smaller_bytes(&self.graphics).map(|graphics| cases::Section { graphics, ..self.clone() }).chain(system)
     }
 
     fn text(&self) -> String {

@@ -1,6 +1,7 @@
 //! The single fields of our library against the published `Cursor` and `Writer`.
 
-use crate::difference::{compare, hex, smaller_bytes, Difference, Input, Place};
+use crate::difference::{compare, hex, Difference, Input, Place};
+use crate::smaller::smaller_bytes;
 use cases::Rng;
 use link::Fields;
 use std::path::Path;
@@ -36,14 +37,12 @@ pub struct FieldAnswer {
 }
 
 impl Input for FieldInput {
-    fn smaller(&self) -> Vec<Self> {
-        let mut out: Vec<Self> =
-            smaller_bytes(&self.bytes).into_iter().map(|bytes| FieldInput { bytes, ..self.clone() }).collect();
+    fn smaller(&self) -> impl Iterator<Item = Self> {
+        let bytes = smaller_bytes(&self.bytes).map(|bytes| FieldInput { bytes, ..self.clone() });
         let places = [0, self.at / 2, self.at.saturating_sub(1)].into_iter().filter(|&at| at < self.at);
-        out.extend(places.map(|at| FieldInput { at, ..self.clone() }));
         let values = [0, self.value >> 8, self.value >> 1].into_iter().filter(|&v| v < self.value);
-        out.extend(values.map(|value| FieldInput { value, ..self.clone() }));
-        out
+        let less = places.map(|at| FieldInput { at, ..self.clone() });
+        bytes.chain(less).chain(values.map(|value| FieldInput { value, ..self.clone() }))
     }
 
     fn text(&self) -> String {
@@ -105,7 +104,7 @@ pub fn run(library: &dyn Fields, folder: &Path, seed: u64, random: usize) -> Res
     let mut calls = 0;
     let mut one = |input: &FieldInput| {
         calls += 1;
-        compare(&Place { folder, name: "fields", seed }, input, |i| ours(library, i), rust)
+        compare(&Place { folder, name: "fields", seed }, input, |i| ours(library, i), rust).map(drop)
     };
     for length in 0..=20 {
         for at in positions() {

@@ -1,8 +1,9 @@
 //! The hash of our library against the published one.
 
-use crate::difference::{compare, hex, smaller_bytes, Difference, Input, Place};
+use crate::difference::{compare, hex, Difference, Input, Place};
 use crate::extent::Extent;
 use crate::model;
+use crate::smaller::smaller_bytes;
 use cases::Rng;
 use link::Hash;
 use oracle::rage_joaat;
@@ -13,8 +14,8 @@ use std::path::Path;
 struct Name(Vec<u8>);
 
 impl Input for Name {
-    fn smaller(&self) -> Vec<Self> {
-        smaller_bytes(&self.0).into_iter().map(Name).collect()
+    fn smaller(&self) -> impl Iterator<Item = Self> {
+        smaller_bytes(&self.0).map(Name)
     }
 
     fn text(&self) -> String {
@@ -23,8 +24,8 @@ impl Input for Name {
 }
 
 /// The published hash takes UTF-8; for other bytes 01's definition stands in, which `rigs::hash` holds to it.
-fn rust(name: &Name) -> u32 {
-    std::str::from_utf8(&name.0).map_or_else(|_| model::joaat(&name.0), rage_joaat)
+pub fn hash_of(name: &[u8]) -> u32 {
+    std::str::from_utf8(name).map_or_else(|_| model::joaat(name), rage_joaat)
 }
 
 /// All strings of up to two bytes, then random ones, every other one UTF-8. Gives their number.
@@ -33,7 +34,7 @@ pub fn run(library: &dyn Hash, folder: &Path, seed: u64, extent: Extent) -> Resu
     let mut names = 0;
     let mut one = |bytes: Vec<u8>| {
         names += 1;
-        compare(&Place { folder, name: "hash", seed }, &Name(bytes), |n| library.rage_joaat(&n.0), rust)
+        compare(&Place { folder, name: "hash", seed }, &Name(bytes), |n| library.rage_joaat(&n.0), |n| hash_of(&n.0)).map(drop)
     };
     one(Vec::new())?;
     for a in 0..=255 {

@@ -1,7 +1,7 @@
 //! Joints: reading and writing of our library against the published Rust, every lent word and byte compared.
 
-mod read;
+pub mod read;
 mod runs;
-mod write;
+pub mod write;
 
 pub use runs::run;

@@ -20,7 +20,7 @@ macro_rules! items {
     )*};
 }
 
-items! { u8 u16 u32 usize }
+items! { u8 u16 u32 u64 usize }
 
 /// The guard's items on either side.
 const WIDTH: usize = 16;

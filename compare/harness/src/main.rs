@@ -1,5 +1,6 @@
 //! Runs the published Rust over generated cases, and our library against it.
 
+mod checks;
 mod damaged;
 mod derived;
 mod difference;
@@ -8,12 +9,16 @@ mod fields;
 mod hash;
 mod joints;
 mod lent;
+mod lent_tables;
 mod model;
 mod options;
+mod program;
 mod readings;
 mod rigs;
 mod self_test;
 mod share;
+mod skeletons;
+mod smaller;
 mod store;
 mod tally;
 mod text;
@@ -44,13 +49,17 @@ fn run(o: &Options) -> Result<(), String> {
     let _ = std::fs::remove_dir_all(failures);
     println!("compare: seed {}, {} damaged sections, {} threads", o.seed, o.count, o.threads);
     let times = if o.long { 20 } else { 1 };
+    if o.only.is_some() {
+        return ours(o, failures);
+    }
     stage("self-test", "faults found", || self_test::run(failures))?;
     if o.oracle_only {
         println!("our library: left out (--oracle-only)");
     } else {
         ours(o, failures)?;
     }
-    stage("readings", "shown", readings::run)?;
+    stage("readings", if link::LINKED { "shown by both" } else { "shown by the Rust" }, readings::run)?;
+    println!("the Rust alone:");
     stage("deriving", "rigs", || rigs::derive(o.seed, 20_000 * times))?;
     stage("writing and reading back", "rigs", || rigs::write_and_read_back(o.seed, 20_000 * times))?;
     stage("sections scattered over both halves", "rigs", || rigs::scattered(o.seed, 20_000 * times))?;
@@ -83,23 +92,45 @@ fn ours(o: &Options, failures: &Path) -> Result<(), String> {
         tally.require("joints write", &["done", "1", "5", "6"])?;
         Ok(format!("\n{tally}"))
     })?;
-    println!("the Rust alone:");
+    compared(o, "skeletons", "", link::skeletons(), |l| {
+        let tally = skeletons::run(l, failures, seed, extent, threads)?;
+        skeletons::require_all(&tally)?;
+        Ok(format!("\n{tally}"))
+    })?;
+    compared(o, "checks", "", link::checks(), |l| {
+        let tally = checks::run(l, failures, seed, extent, threads)?;
+        checks::require_all(&tally)?;
+        Ok(format!("\n{tally}"))
+    })?;
+    let path = program::path();
+    let started = |bytes: &[u8]| program::printed(&path, bytes);
+    compared(o, "program", "", path.is_file().then_some(&started as program::Program), |p| {
+        program::examples(p, Path::new("../examples"))?;
+        let tally = program::run(p, failures, seed, extent, threads)?;
+        program::require_all(&tally)?;
+        Ok(format!("\n{tally}"))
+    })?;
     Ok(())
 }
 
-/// Runs the comparison of one group of exports. A group that the library lacks is a line, or an error if required.
+/// Runs the comparison of one group of exports, or of the program. What is missing is a line, or an error if required.
 fn compared<L: ?Sized, T: Display>(
     o: &Options,
     name: &str,
     unit: &str,
-    group: Option<&'static L>,
+    group: Option<&L>,
     run: impl FnOnce(&L) -> Result<T, String>,
 ) -> Result<(), String> {
+    let missing = match name {
+        "program" => format!("there is no {}", program::path().display()),
+        _ => "librig.a has no such exports".into(),
+    };
     match group {
+        _ if o.only.as_ref().is_some_and(|only| only != name) => Ok(()),
         Some(group) => stage(name, unit, || run(group)),
-        None if o.required => Err(format!("{name}: librig.a has no such exports")),
+        None if o.required => Err(format!("{name}: {missing}")),
         None => {
-            println!("{name}: not run: librig.a has no such exports");
+            println!("{name}: not run: {missing}");
             Ok(())
         }
     }

@@ -12,12 +12,15 @@ pub struct Options {
     pub threads: u64,
     /// A file for the stored sample; nothing else is run then.
     pub store: Option<String>,
+    /// The comparison of our library that is run; nothing else is then.
+    pub only: Option<String>,
 }
 
 impl Options {
     pub fn parse(words: impl Iterator<Item = String>) -> Result<Options, String> {
         let (seed, count, threads) = (1_000_000, 0, 0);
-        let mut o = Options { long: false, oracle_only: false, required: false, seed, count, threads, store: None };
+        let (store, only) = (None, None);
+        let mut o = Options { long: false, oracle_only: false, required: false, seed, count, threads, store, only };
         let mut words = words;
         while let Some(word) = words.next() {
             let mut number = || words.next().and_then(|w| w.parse().ok()).ok_or(format!("{word} wants a number"));
@@ -29,6 +32,7 @@ impl Options {
                 "--count" => o.count = number()?,
                 "--threads" => o.threads = number()?,
                 "--store" => o.store = Some(words.next().ok_or("--store wants a file")?),
+                "--only" => o.only = Some(words.next().ok_or("--only wants a name")?),
                 other => return Err(format!("unknown word {other}")),
             }
         }

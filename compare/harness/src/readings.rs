@@ -1,12 +1,15 @@
-//! What the published Rust does where document 01 leaves room: one named assertion for each reading.
-//! docs/DECISIONS.md and docs/DIFFERENCES.md cite these functions by name.
+//! What the published Rust does where document 01 leaves room: one named assertion for each reading. What our library
+//! exports is asked beside it (`ask`), and must answer alike. docs/DECISIONS.md and docs/DIFFERENCES.md cite these functions
+//! by name.
 
 mod addresses;
+mod ask;
 mod bytes;
 mod deriving;
 mod floats;
 mod numbers;
 mod pool;
+mod room;
 mod section;
 mod trial;
 mod writing;
@@ -36,6 +39,12 @@ readings! {
         moments_of_pooling, name_at_own_bone_block_or_root, bucket_or_link_at_bucket_array_or_root, arrays_at_root,
         later_kind_replaces_earlier, twelve_before_ten_and_eleven, plain_arrays_never_give_12, pool_is_asked_before_the_count,
         other_kind_is_read_anew_and_left_out, lists_stand_without_bones, local_at_inverse_gives_kept_words,
+    }
+    room {
+        entry_after_its_bytes_and_before_its_link, bucket_after_its_chain, name_pool_row_after_the_name, bone_row_after_its_name,
+        bone_pool_row_after_its_row, bucket_array_and_block_after_their_last_element, array_rows_all_or_none_then_its_pool_row,
+        skeleton_pool_row_last, list_given_again_takes_rows_of_its_own_table, sizes_are_by_n,
+        bones_table_with_fewer_rows_than_asked_for, tables_are_zero_after_none_and_refusals,
     }
     deriving {
         roots_are_all_negative_parents, children_by_index_walk_and_entries_by_position, bone_is_its_own_child,
@@ -73,54 +82,5 @@ pub fn run() -> Result<usize, String> {
         Ok(READINGS.len())
     } else {
         Err(format!("readings not shown: {}", failed.join(", ")))
-    }
-}
-
-/// Short forms of the oracle for the modules below.
-mod ask {
-    use cases::Section;
-    use oracle::{Answer, Bone, JointsAnswer, Reading, Verdict};
-
-    pub fn read(s: &Section) -> Answer {
-        oracle::read(&s.system, &s.graphics, s.root)
-    }
-
-    /// The refusal's number, 0 for a section that reads.
-    pub fn refusal(s: &Section) -> u8 {
-        match read(s) {
-            Answer::Refused(n) => n,
-            Answer::Read(_) => 0,
-            Answer::None => panic!("the root is 0"),
-        }
-    }
-
-    pub fn reading(s: &Section) -> Reading {
-        match read(s) {
-            Answer::Read(r) => *r,
-            other => panic!("not read: {other:?}"),
-        }
-    }
-
-    pub fn bones(s: &Section) -> Vec<Bone> {
-        reading(s).bones.expect("bones stand")
-    }
-
-    pub fn check(s: &Section) -> Verdict {
-        oracle::check(&s.system, &s.graphics, s.root)
-    }
-
-    pub fn joints_refusal(s: &Section) -> u8 {
-        match oracle::joints_read(&s.system, &s.graphics, s.root) {
-            JointsAnswer::Refused(n) => n,
-            JointsAnswer::Read(_) => 0,
-            JointsAnswer::None => panic!("the root is 0"),
-        }
-    }
-
-    /// The section with its system half cut at `length`.
-    pub fn cut(s: &Section, length: usize) -> Section {
-        let mut c = s.clone();
-        c.system.truncate(length);
-        c
     }
 }

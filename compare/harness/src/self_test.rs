@@ -1,15 +1,18 @@
 //! The comparison's own test: faults put in here, not in the library, must be found, shrunk and stored.
 
+mod checks;
 mod derive;
 mod fields;
 mod joints;
+mod program;
+mod skeleton_read;
+mod skeleton_write;
+mod skeletons;
 
-use crate::difference::{compare, Difference, Place};
+use crate::difference::Difference;
 use crate::extent::Extent::Test;
 use crate::{derived, hash, lent};
-use cases::{good, Rng, Section};
 use fields::{Fault, Faulty};
-use oracle::Answer;
 use std::path::Path;
 
 /// Runs every fault; an error where one is not found. Gives the number of faults found.
@@ -18,7 +21,13 @@ pub fn run(folder: &Path) -> Result<usize, String> {
     if !lent::changes_are_noticed() {
         return Err("self-test: a touched guard was not found".into());
     }
-    Ok(1 + single_fields(folder)? + reading(folder)? + deriving(folder)? + hashing(folder)? + limits(folder)?)
+    Ok(1 + single_fields(folder)?
+        + deriving(folder)?
+        + hashing(folder)?
+        + limits(folder)?
+        + sections(folder)?
+        + checked(folder)?
+        + printed(folder)?)
 }
 
 fn single_fields(folder: &Path) -> Result<usize, String> {
@@ -35,24 +44,13 @@ fn single_fields(folder: &Path) -> Result<usize, String> {
     Ok(3)
 }
 
-fn reading(folder: &Path) -> Result<usize, String> {
-    let d = stored(wrong_answer(folder), "a wrong bone in a reading")?;
-    // what is left is a skeleton and one bone; more than 400 bytes were hardly shrunk
-    let system = d.text.lines().find_map(|l| l.strip_prefix("system ")).map_or(0, |hex| hex.len() / 2);
-    if system > 400 {
-        return Err(format!("self-test: the section was shrunk to {system} bytes only"));
-    }
-    Ok(1)
-}
-
 fn deriving(folder: &Path) -> Result<usize, String> {
     none(derived::run(&derive::Faulty(None), folder, 1, Test, 1))?;
     for fault in derive::FAULTS {
         let d = stored(derived::run(&derive::Faulty(Some(fault)), folder, 1, Test, 1), &format!("{fault:?}"))?;
         // each fault shows in at most 17 bones
-        let bones = d.text.lines().filter(|l| l.starts_with("bone")).count();
-        if bones > 17 {
-            return Err(format!("self-test: {fault:?} was shrunk to {bones} bones only"));
+        if bones(&d) > 17 {
+            return Err(format!("self-test: {fault:?} was shrunk to {} bones only", bones(&d)));
         }
     }
     Ok(derive::FAULTS.len())
@@ -72,6 +70,52 @@ fn limits(folder: &Path) -> Result<usize, String> {
     Ok(joints::FAULTS.len())
 }
 
+fn sections(folder: &Path) -> Result<usize, String> {
+    none(crate::skeletons::run(&skeletons::Faulty(None), folder, 1, Test, 1))?;
+    for fault in skeletons::faults() {
+        let d = stored(crate::skeletons::run(&skeletons::Faulty(Some(fault)), folder, 1, Test, 1), &format!("{fault:?}"))?;
+        // each fault of reading shows in a skeleton and few more bytes, each fault of writing in at most two bones
+        if matches!(fault, skeletons::Fault::Read(_)) && system(&d) > 400 || bones(&d) > 2 {
+            return Err(format!("self-test: {fault:?} was not shrunk:\n{}", d.text));
+        }
+    }
+    if !skeletons::three_is_noticed() {
+        return Err("self-test: 65,536 child entries taken were not found".into());
+    }
+    Ok(skeletons::faults().count() + 1)
+}
+
+fn checked(folder: &Path) -> Result<usize, String> {
+    none(crate::checks::run(&checks::Faulty(None), folder, 1, Test, 1))?;
+    for fault in checks::FAULTS {
+        let d = stored(crate::checks::run(&checks::Faulty(Some(fault)), folder, 1, Test, 1), &format!("{fault:?}"))?;
+        // each fault shows in few bones and their lists
+        if system(&d) > 1_600 {
+            return Err(format!("self-test: {fault:?} was not shrunk:\n{}", d.text));
+        }
+    }
+    Ok(checks::FAULTS.len())
+}
+
+fn printed(folder: &Path) -> Result<usize, String> {
+    let right = |bytes: &[u8]| crate::program::rust(&crate::program::Bytes(bytes.to_vec()));
+    none(crate::program::run(&right, folder, 1, Test, 1))?;
+    for (name, fault) in program::FAULTS {
+        stored(crate::program::run(&|bytes| fault(bytes, right(bytes)), folder, 1, Test, 1), name)?;
+    }
+    Ok(program::FAULTS.len())
+}
+
+/// The bytes of the smallest input's system half.
+fn system(d: &Difference) -> usize {
+    d.text.lines().find_map(|l| l.strip_prefix("system ")).map_or(0, |hex| hex.len() / 2)
+}
+
+/// The bones of the smallest input.
+fn bones(d: &Difference) -> usize {
+    d.text.lines().filter(|l| l.starts_with("bone")).count()
+}
+
 /// Where there is no fault, no difference may be found.
 fn none<T>(result: Result<T, Difference>) -> Result<(), String> {
     result.map(|_| ()).map_err(|d| format!("self-test: a difference where there is no fault: {d}"))
@@ -84,21 +128,4 @@ fn stored<T>(result: Result<T, Difference>, name: &str) -> Result<Difference, St
         Err(d) if !d.file.is_file() => Err(format!("self-test: {name} was not stored")),
         Err(d) => Ok(d),
     }
-}
-
-/// Readings of good sections against the same readings with one bit of bone 0 turned.
-fn wrong_answer(folder: &Path) -> Result<(), Difference> {
-    let rust = |s: &Section| oracle::read(&s.system, &s.graphics, s.root);
-    let ours = |s: &Section| {
-        let mut answer = rust(s);
-        if let Answer::Read(r) = &mut answer {
-            r.bones.iter_mut().flatten().take(1).for_each(|b| b.tag ^= 1);
-        }
-        answer
-    };
-    for seed in 0..20 {
-        let (_, section) = good(&mut Rng::new(seed));
-        compare(&Place { folder, name: "read", seed }, &section, ours, rust)?;
-    }
-    Ok(())
 }

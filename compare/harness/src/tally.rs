@@ -57,6 +57,8 @@ pub fn refusal(number: u8) -> &'static str {
     match number {
         1 => "1",
         2 => "2",
+        3 => "3",
+        4 => "4",
         5 => "5",
         6 => "6",
         10 => "10",

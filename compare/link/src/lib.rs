@@ -1,8 +1,11 @@
 //! Our library `rig`: its exports and safe wrappers. The only `unsafe` of the workspace is in
 //! `exports`.
 
+mod checks;
 #[cfg(rig)]
 mod exports;
+
+pub use checks::Checks;
 
 /// The status of a call that did what was asked; a refusal is 01's number.
 pub const DONE: u32 = 0;
@@ -61,6 +64,55 @@ pub trait Joints: Sync {
     fn fresh_rotation_limit(&self, out: &mut [u32; 48]);
 }
 
+/// The kind word, the four free words, the stored counts of buckets, bones and child entries; then of buckets, bones,
+/// inverse and local matrices, parents and children whether the list stands and its length, of matrices in words.
+pub type SkeletonFields = [usize; 20];
+
+/// The two halves of a section, or of bytes that hold names.
+#[derive(Clone, Copy)]
+pub struct Halves<'a> {
+    pub system: &'a [u8],
+    pub graphics: &'a [u8],
+}
+
+/// The tables that reading is lent.
+pub struct ReadTables<'a> {
+    pub bones: &'a mut [u32],
+    pub buckets: &'a mut [u32],
+    pub entries: &'a mut [u32],
+    pub inverse: &'a mut [u32],
+    pub local: &'a mut [u32],
+    pub parents: &'a mut [u16],
+    pub children: &'a mut [u16],
+    pub pool: &'a mut [u64],
+}
+
+/// The bones that are to be written: the first `n` of a table, the bytes in which their names lie, and the four free words.
+#[derive(Clone, Copy)]
+pub struct WrittenBones<'a> {
+    pub table: &'a [u32],
+    pub n: usize,
+    pub names: Halves<'a>,
+    pub free: &'a [u32; 4],
+}
+
+/// The working tables that writing is lent, and the check for deriving.
+pub struct WriteTables<'a> {
+    pub buckets: &'a mut [u32],
+    pub entries: &'a mut [u32],
+    pub inverse: &'a mut [u32],
+    pub local: &'a mut [u32],
+    pub parents: &'a mut [u16],
+    pub children: &'a mut [u16],
+    pub pending: &'a mut [u32],
+}
+
+/// Skeletons. A call gives its status; writing counts its bytes, 0 after a refusal.
+pub trait Skeletons: Sync {
+    fn read(&self, section: Halves, root: u64, tables: ReadTables, fields: &mut SkeletonFields) -> u32;
+    fn write(&self, bones: WrittenBones, tables: WriteTables, out: &mut [u8], count: &mut usize) -> u32;
+}
+
 /// Whether this crate was built with a library.
 pub const LINKED: bool = cfg!(rig);
 
@@ -81,4 +133,6 @@ groups! {
     derive: Derive if rig_derive;
     hash: Hash if rig_hash;
     joints: Joints if rig_joints;
+    skeletons: Skeletons if rig_skeletons;
+    checks: Checks if rig_checks;
 }

@@ -1,5 +1,6 @@
 //! The tag lookup of 01, read from its text over the published `Reader`.
 
+use crate::header::{header, Header};
 use crate::refusal::number;
 use rage_formats::blocks::{ydr, Reader};
 
@@ -23,17 +24,17 @@ pub fn lookup(system: &[u8], graphics: &[u8], root: u64, tag: u32) -> Found {
 }
 
 fn follow(r: &Reader, root: u64, tag: u32) -> Result<Found, String> {
-    let (buckets, bucket_count, bone_count) = header(r, root)?;
+    let Header { buckets, bucket_count, bone_count, .. } = header(r, root)?;
     if buckets == 0 || bucket_count == 0 {
         return Ok(Found::None);
     }
-    let firsts = r.u64s(buckets, bucket_count as usize).map_err(|e| e.to_string())?;
-    let mut next = firsts[(tag % bucket_count as u32) as usize];
-    for visited in 0u32.. {
+    let firsts = r.u64s(buckets, bucket_count).map_err(|e| e.to_string())?;
+    let mut next = firsts[tag as usize % bucket_count];
+    for visited in 0.. {
         if next == 0 {
             return Ok(Found::None);
         }
-        if visited == bone_count as u32 {
+        if visited == bone_count {
             return Ok(Found::Refused(14));
         }
         let mut c = r.cursor(next).map_err(|e| e.to_string())?;
@@ -45,15 +46,4 @@ fn follow(r: &Reader, root: u64, tag: u32) -> Result<Found, String> {
         }
     }
     unreachable!("a chain is followed for at most 65,535 entries")
-}
-
-/// The bucket pointer and count and the bone count, once the fields that reading reads stand.
-fn header(r: &Reader, root: u64) -> Result<(u64, u16, u16), String> {
-    let mut c = r.cursor(root).map_err(|e| e.to_string())?;
-    c.skip(16);
-    let (buckets, bucket_count) = (c.u64(), c.u16());
-    c.skip(68);
-    let (bone_count, _child_count) = (c.u16(), c.u16());
-    c.check().map_err(|e| e.to_string())?;
-    Ok((buckets, bucket_count, bone_count))
 }

@@ -2,8 +2,8 @@
 
 use crate::bone::{published, Bone};
 use crate::joints::{placed_limits, RotationLimit, TranslationLimit};
-use crate::write::write_all;
-use rage_formats::blocks::skeleton::{self, Joints};
+use crate::write::{named_bones, parts, place_all, write_all};
+use rage_formats::blocks::skeleton::{self, Joints, Skeleton};
 use rage_formats::blocks::{ydr, BlockId, Graph, Reader};
 use rage_formats::math::Mat4;
 
@@ -31,7 +31,7 @@ impl PreparedBones {
     }
 }
 
-/// A reader of a joints section; each reading wants a new one, for its pool is not empty afterwards.
+/// A reader of a section; each reading wants a new one, for its pool is not empty afterwards.
 pub struct PreparedSection(Reader);
 
 impl PreparedSection {
@@ -45,23 +45,60 @@ impl PreparedSection {
         Joints::read(&mut self.0, &mut g, root).expect("a good section");
         (g, self)
     }
+
+    /// The graph that holds the skeleton at `root`, and the reader.
+    pub fn read(mut self, root: u64) -> (Graph, Self) {
+        let mut g = Graph::new();
+        Skeleton::read(&mut self.0, &mut g, root).expect("a good section");
+        (g, self)
+    }
 }
 
-/// Limits in blocks that are placed already.
-pub struct PreparedLimits {
+/// Bones and the graph that holds their names; each writing wants new ones, for the blocks go into the graph.
+pub struct PreparedRig {
+    g: Graph,
+    names: Vec<Option<BlockId>>,
+    bones: Vec<skeleton::Bone>,
+}
+
+impl PreparedRig {
+    pub fn new(bones: &[Bone]) -> Self {
+        let mut g = Graph::new();
+        let (names, bones) = named_bones(&mut g, bones);
+        PreparedRig { g, names, bones }
+    }
+
+    /// The blocks of the skeleton with its derived tables, in their places.
+    pub fn derived(self) -> PreparedBlocks {
+        let PreparedRig { mut g, names, bones } = self;
+        let root = Skeleton::from_bones(&mut g, bones, 0, 0, 0, 0);
+        let parts = parts(&g, root, names);
+        let end = place_all(&mut g, &parts);
+        PreparedBlocks { g, parts, end }
+    }
+
+    /// The section, and the blocks that it was written from.
+    pub fn write(self) -> (Vec<u8>, PreparedBlocks) {
+        let blocks = self.derived();
+        (blocks.write(), blocks)
+    }
+}
+
+/// Blocks that are placed already.
+pub struct PreparedBlocks {
     g: Graph,
     parts: Vec<Vec<BlockId>>,
     end: usize,
 }
 
-impl PreparedLimits {
-    pub fn new(rotations: &[RotationLimit], translations: &[TranslationLimit]) -> Self {
+impl PreparedBlocks {
+    pub fn of_limits(rotations: &[RotationLimit], translations: &[TranslationLimit]) -> Self {
         let (g, parts, end) = placed_limits(rotations, translations);
-        PreparedLimits { g, parts, end }
+        PreparedBlocks { g, parts, end }
     }
 
     /// The section, written into a buffer of its own.
-    pub fn joints_write(&self) -> Vec<u8> {
+    pub fn write(&self) -> Vec<u8> {
         write_all(&self.g, &self.parts, self.end).section()
     }
 }

@@ -3,6 +3,7 @@
 
 use crate::bone::{matrix_words, plain, Bone, Matrix};
 use crate::refusal::number;
+use crate::rows::Rows;
 use rage_formats::blocks::base::{PointerArray64, StringBlock, StructArray};
 use rage_formats::blocks::skeleton::{self, Skeleton, SkeletonBoneTag, SkeletonBonesBlock};
 use rage_formats::blocks::{ydr, BlockId, Graph, Pod, Reader};
@@ -24,20 +25,6 @@ pub struct Entry {
     pub tag: u32,
     pub position: u32,
     pub next: Option<usize>,
-}
-
-/// The rows that reading uses in each table.
-#[derive(Clone, Copy, Debug, Default, PartialEq, Eq)]
-pub struct Rows {
-    pub buckets: usize,
-    pub entries: usize,
-    pub bones: usize,
-    pub inverse: usize,
-    pub local: usize,
-    pub parents: usize,
-    pub children: usize,
-    /// Distinct addresses pooled.
-    pub pool: usize,
 }
 
 /// A skeleton as read. A list that is `None` has the pointer 0 (or, for the bones, 16).

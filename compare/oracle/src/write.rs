@@ -5,7 +5,7 @@ use crate::bone::{published, Bone};
 use crate::derive::settle_nan;
 use crate::refusal::number;
 use rage_formats::blocks::base::{PointerArray64, RawBytes, StringBlock, StructArray};
-use rage_formats::blocks::skeleton::{Skeleton, SkeletonBoneTag};
+use rage_formats::blocks::skeleton::{self, Skeleton, SkeletonBoneTag};
 use rage_formats::blocks::{ydr, BlockId, Graph, Section, Writer};
 use rage_formats::math::Mat4;
 use rage_formats::resource::SYSTEM_BASE;
@@ -36,18 +36,28 @@ pub fn write(bones: &[Bone], free: [u32; 4]) -> Written {
     if bones.len() > 65_535 {
         return Written::Refused(2);
     }
-    let unfit = |name: &Vec<u8>| name.len() > 255 || name.contains(&0);
-    if bones.iter().any(|b| b.name.as_ref().is_some_and(unfit)) {
+    if !names_fit(bones) {
         return Written::Refused(4);
     }
     let mut g = Graph::new();
-    let names: Vec<Option<BlockId>> = bones.iter().map(|b| b.name.as_ref().map(|n| add_name(&mut g, n))).collect();
-    let rust_bones = bones.iter().zip(&names).map(|(b, &name)| published(b, name)).collect();
-    let root = Skeleton::from_bones(&mut g, rust_bones, free[0], free[1], free[2], free[3]);
+    let (names, bones) = named_bones(&mut g, bones);
+    let root = Skeleton::from_bones(&mut g, bones, free[0], free[1], free[2], free[3]);
     settle_matrices(&mut g);
     let places = parts(&g, root, names);
     let end = place_all(&mut g, &places);
     write_all(&g, &places, end)
+}
+
+/// Whether no name is over 255 bytes or holds a zero byte.
+pub fn names_fit(bones: &[Bone]) -> bool {
+    bones.iter().flat_map(|b| &b.name).all(|name| name.len() <= 255 && !name.contains(&0))
+}
+
+/// The blocks of the names, added to the graph, and the published bones.
+pub(crate) fn named_bones(g: &mut Graph, bones: &[Bone]) -> (Vec<Option<BlockId>>, Vec<skeleton::Bone>) {
+    let names: Vec<Option<BlockId>> = bones.iter().map(|b| b.name.as_ref().map(|n| add_name(g, n))).collect();
+    let bones = bones.iter().zip(&names).map(|(b, &name)| published(b, name)).collect();
+    (names, bones)
 }
 
 /// The name's block. A name that is not UTF-8 does not fit a `StringBlock`; its bytes and the zero
@@ -68,7 +78,7 @@ fn settle_matrices(g: &mut Graph) {
 }
 
 /// 01's parts in order, each a run of blocks that lie one behind the other.
-fn parts(g: &Graph, root: BlockId, names: Vec<Option<BlockId>>) -> Vec<Vec<BlockId>> {
+pub(crate) fn parts(g: &Graph, root: BlockId, names: Vec<Option<BlockId>>) -> Vec<Vec<BlockId>> {
     let s = g.get::<Skeleton>(root);
     let one = |id: Option<BlockId>| id.into_iter().collect::<Vec<_>>();
     vec![

@@ -1,22 +1,28 @@
--- What is told of a section that is read or written is what the calls answer. Assumes nothing.
+-- What is told of a section is what the calls answer. Assumes nothing.
 use Prim.Native.Nat.{ℕ}
 use mathlib.Core.Path.{_≡_, ap, _∙_}
 use mathlib.Core.Option.{Option, some}
 use mathlib.Core.List.{List, [], _∷_}
 use Rattle.format.specs.Result.{Res, done}
 use Rattle.format.specs.Layout.{Bytes}
-use Rattle.format.specs.Tables.{SkeletonRow}
-use Rattle.format.specs.Read.{Step}
-use Rattle.read.specs.Lent.{Lent}
+use Rattle.format.specs.Section.{Section}
+use Rattle.format.specs.Tables.{SkeletonRow, noRows}
+use Rattle.format.specs.Read.{Step, readSkeleton}
+use Rattle.format.specs.Search.{search}
+use Rattle.read.specs.Lent.{Lent, roomOf}
 use Rattle.read.specs.Parts.{meantPart}
-use Rattle.read.specs.Reads.{meantSkeleton, meantRead, Reads}
+use Rattle.read.specs.Reads.{meantSkeleton, meantRead, leaves, Reads}
 use Rattle.read.specs.declared.Part.{Part}
 use Rattle.read.specs.declared.Skeleton.{Skeleton}
 use Rattle.read.specs.declared.SkeletonRead.{SkeletonRead}
 use Rattle.write.specs.Outcome.{writtenOf, Writes}
+use Rattle.write.specs.Working.{Tables}
 use Rattle.write.specs.declared.Written.{Written}
-use Rattle.answers.specs.Answer.{status, counted, readStatus, numberIf, stands}
-use Rattle.answers.specs.Told.{partLength, skeletonFields, ReadTold, WriteTold}
+use Rattle.checked.specs.Steps.{checkedOf}
+use Rattle.checked.specs.declared.Checked.{Checked}
+use Rattle.verify.specs.Checks.{leavesBy, Checks}
+use Rattle.answers.specs.Answer.{status, counted, readStatus, given, numberIf, stands}
+use Rattle.answers.specs.Told.{partLength, skeletonFields, ReadTold, WriteTold, Told, SearchTold, CheckTold}
 
 -- ---- reading
 
@@ -50,3 +56,24 @@ pub write-told :
     n ≡ status (writtenOf r) → WriteTold w n k out out′
 write-told a k n =
     record { answer = n ∙ ap status (a .answer); count = k ∙ ap counted (a .answer); buffer = a .buffer }
+
+-- ---- lookup, search, check
+
+-- an answer a that is the definition's w
+pub told-by : {a w : Res (Option ℕ)} {r n : ℕ} → a ≡ w → n ≡ given a → r ≡ readStatus a → Told w r n
+told-by e n r = record { answer = r ∙ ap readStatus e; number = n ∙ ap given e }
+
+pub search-told :
+    (sec : Section) (root key : ℕ) {a : Res (Option ℕ)} {r n : ℕ} (t₀ : Lent) {t : Lent} → a ≡ search sec (roomOf t₀) root key →
+    t ≡ leaves (readSkeleton sec (roomOf t₀) root noRows) t₀ → n ≡ given a → r ≡ readStatus a → SearchTold sec root key r n t₀ t
+search-told sec root key t₀ e l n r = record { told = told-by e n r; tables = l }
+
+pub check-told :
+    {sec : Section} {root r n : ℕ} {v : Checked} {t₀ t : Lent} {x₀ x : Tables} → Checks sec root v t₀ t x₀ x →
+    n ≡ given (checkedOf v) → r ≡ readStatus (checkedOf v) → CheckTold sec root r n t₀ t x₀ x
+check-told {sec} {root} {t₀ = t₀} k n r =
+    record {
+      told = told-by (k .answer) n r;
+      tables = k .tables ∙ ap (λ a. leavesBy a (readSkeleton sec (roomOf t₀) root noRows) t₀) (k .answer);
+      working = k .working;
+    }

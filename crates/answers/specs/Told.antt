@@ -1,4 +1,4 @@
--- What the exports say of a skeleton's section that is read or written, in numbers. Definitions only.
+-- What the exports say of a section that is read, written, looked up in, searched or checked, in numbers. Definitions only.
 use Prim.Native.Nat.{ℕ}
 use mathlib.Core.Path.{_≡_}
 use mathlib.Core.Option.{Option, none, some}
@@ -7,12 +7,17 @@ use lib.ListN.{replicate, getD}
 use Rattle.format.specs.Result.{Res, refused, done}
 use Rattle.format.specs.Bone.{Words4, words4}
 use Rattle.format.specs.Layout.{Bytes}
-use Rattle.format.specs.Tables.{Rows, SkeletonRow}
-use Rattle.format.specs.Read.{Step}
-use Rattle.read.specs.Lent.{Lent}
+use Rattle.format.specs.Section.{Section}
+use Rattle.format.specs.Tables.{Rows, SkeletonRow, noRows}
+use Rattle.format.specs.Read.{Step, readSkeleton}
+use Rattle.format.specs.Search.{search}
+use Rattle.format.specs.Check.{check}
+use Rattle.read.specs.Lent.{Lent, roomOf}
 use Rattle.read.specs.Reads as reading
 use Rattle.write.specs.Outcome as writing
-use Rattle.answers.specs.Answer.{status, counted, readStatus, numberIf, stands}
+use Rattle.write.specs.Working.{Tables, roomIn, Zeroed}
+use Rattle.verify.specs.Checks.{leavesBy}
+use Rattle.answers.specs.Answer.{status, counted, readStatus, given, numberIf, stands}
 
 -- ---- reading
 
@@ -49,3 +54,21 @@ pub record WriteTold (w : Res Bytes) (r n : ℕ) (out out′ : List ℕ) : Type 
   pub answer : r ≡ status (writing.sizeOf w)
   pub count : n ≡ counted (writing.sizeOf w)
   pub buffer : out′ ≡ writing.leaves w out
+
+-- ---- lookup, search, check
+
+-- the status and the position or count of the answer w
+pub record Told (w : Res (Option ℕ)) (r n : ℕ) : Type 0 where
+  pub answer : r ≡ readStatus w
+  pub number : n ≡ given w
+
+-- the search for a key; it leaves the tables t₀ as its reading does
+pub record SearchTold (sec : Section) (root key r n : ℕ) (t₀ t : Lent) : Type 0 where
+  pub told : Told (search sec (roomOf t₀) root key) r n
+  pub tables : t ≡ reading.leaves (readSkeleton sec (roomOf t₀) root noRows) t₀
+
+-- the check, lent the reading's tables t₀ and the deriving's x₀
+pub record CheckTold (sec : Section) (root r n : ℕ) (t₀ t : Lent) (x₀ x : Tables) : Type 0 where
+  pub told : Told (check sec (roomOf t₀) (roomIn x₀) root) r n
+  pub tables : t ≡ leavesBy (check sec (roomOf t₀) (roomIn x₀) root) (readSkeleton sec (roomOf t₀) root noRows) t₀
+  pub working : Zeroed x₀ x

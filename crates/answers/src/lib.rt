@@ -1,16 +1,22 @@
-// The answers of reading and writing a skeleton as numbers, for C and Rust: a status, 0, 100 for none or document 01's number of the
-// refusal, and fields or a count.
+// Answers as numbers, for C and Rust: a status, 0, 100 for none or document 01's number of the refusal, and what the call gives, fields,
+// a count or a position.
 ghost use mathlib.Core.Path.{_≡_};
 ghost use mathlib.Core.Option.{some};
 ghost use Rattle.format.specs.Result.{done};
 ghost use Rattle.read.specs.Parts.{meantPart};
 ghost use Rattle.read.specs.Reads.{meantSkeleton, meantRead};
 ghost use Rattle.write.specs.Outcome.{writtenOf};
-ghost use Rattle.answers.specs.Answer.{status, counted, readStatus, numberIf, stands};
+ghost use Rattle.lookup.specs.Looked.{lookedOf};
+ghost use Rattle.search.specs.Searched.{searchedOf};
+ghost use Rattle.checked.specs.Steps.{checkedOf};
+ghost use Rattle.answers.specs.Answer.{status, counted, readStatus, given, numberIf, stands};
 ghost use Rattle.answers.specs.Told.{partLength, skeletonFields};
+use checked::Checked;
+use lookup::Looked;
 use read::Part;
 use read::Skeleton;
 use read::SkeletonRead;
+use search::Searched;
 use write::Written;
 
 // The status of "none".
@@ -109,5 +115,74 @@ pub fn written_count(r: Written) -> usize
     match r {
         Written::Done(n) => n,
         Written::Refused(_) => 0,
+    }
+}
+
+// ---- lookup of a tag
+
+pub fn looked_status(r: Looked) -> u32
+    ensures { λ n. ⌜ n ≡ readStatus (lookedOf r) ⌝ }
+{
+    match r {
+        Looked::Found(_) => 0,
+        Looked::Nothing => NOTHING,
+        Looked::Refused(e) => format::code(e),
+    }
+}
+
+// The position found, 0 else.
+pub fn looked_position(r: Looked) -> u32
+    ensures { λ n. ⌜ n ≡ given (lookedOf r) ⌝ }
+{
+    match r {
+        Looked::Found(p) => p,
+        Looked::Nothing => 0,
+        Looked::Refused(_) => 0,
+    }
+}
+
+// ---- the name search
+
+pub fn searched_status(r: Searched) -> u32
+    ensures { λ n. ⌜ n ≡ readStatus (searchedOf r) ⌝ }
+{
+    match r {
+        Searched::Found(_) => 0,
+        Searched::Nothing => NOTHING,
+        Searched::Refused(e) => format::code(e),
+    }
+}
+
+// The position found, 0 else.
+pub fn searched_position(r: Searched) -> usize
+    ensures { λ n. ⌜ n ≡ given (searchedOf r) ⌝ }
+{
+    match r {
+        Searched::Found(p) => p,
+        Searched::Nothing => 0,
+        Searched::Refused(_) => 0,
+    }
+}
+
+// ---- the check
+
+pub fn checked_status(r: Checked) -> u32
+    ensures { λ n. ⌜ n ≡ readStatus (checkedOf r) ⌝ }
+{
+    match r {
+        Checked::Nothing => NOTHING,
+        Checked::Accepted(_) => 0,
+        Checked::Refused(e) => format::code(e),
+    }
+}
+
+// The number of bones read, 0 unless the section is accepted.
+pub fn checked_count(r: Checked) -> usize
+    ensures { λ n. ⌜ n ≡ given (checkedOf r) ⌝ }
+{
+    match r {
+        Checked::Nothing => 0,
+        Checked::Accepted(n) => n,
+        Checked::Refused(_) => 0,
     }
 }

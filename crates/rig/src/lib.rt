@@ -5,9 +5,11 @@ ghost use Rattle.format.specs.Field.{stands, fieldAt, putAt};
 ghost use Rattle.fields.specs.Placed.{placed};
 
 mod derived; // the tables that follow from the bones
-mod names; // the hash of a name
+mod names; // the hash of a name, and the name search
 mod limits; // joints
 mod sections; // a skeleton's section
+mod tags; // lookup of a tag
+mod checks; // the skeleton check
 
 // ---- reading: the number, or 0 where the field does not lie wholly in the slice
 

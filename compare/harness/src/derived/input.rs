@@ -1,6 +1,7 @@
 //! A derivation that is asked for, and its status by 01.
 
 use crate::difference::Input;
+use crate::smaller::{smaller_bones, smaller_room};
 use cases::rows;
 use link::DONE;
 use oracle::num_hash_buckets;
@@ -69,38 +70,12 @@ impl DeriveInput {
             _ => 1,
         }
     }
-
-    fn without(&self, cut: std::ops::Range<usize>) -> Self {
-        let rows = self.bones.len() / rows::BONE;
-        let n = if self.n <= rows { self.n.min(rows - cut.len()) } else { self.n };
-        let (front, behind) = (&self.bones[..rows::BONE * cut.start], &self.bones[rows::BONE * cut.end..]);
-        DeriveInput { bones: [front, behind].concat(), n, ..self.clone() }
-    }
 }
 
 impl Input for DeriveInput {
-    fn smaller(&self) -> Vec<Self> {
-        const FEW: usize = 64;
-        let rows = self.bones.len() / rows::BONE;
-        let mut cuts = vec![rows / 2..rows, 0..rows / 2];
-        cuts.extend((0..if rows <= FEW { rows } else { 0 }).map(|row| row..row + 1));
-        let mut out = vec![DeriveInput { bones: Vec::new(), ..self.clone() }; (rows > 0) as usize];
-        out.extend(cuts.into_iter().filter(|c| !c.is_empty()).map(|c| self.without(c)));
-        for (table, length) in self.lengths().into_iter().enumerate().filter(|&(_, length)| length > 0) {
-            let steps = [(self.room[table] > 0).then_some(self.room[table]), Some(length.div_ceil(2) as isize), Some(1)];
-            for less in steps.into_iter().flatten() {
-                let mut room = self.room;
-                room[table] -= less;
-                out.push(DeriveInput { room, ..self.clone() });
-            }
-        }
-        let words = if rows <= FEW { self.bones.len() } else { 0 };
-        for at in (0..words).filter(|&at| self.bones[at] != 0) {
-            let mut bones = self.bones.clone();
-            bones[at] = 0;
-            out.push(DeriveInput { bones, ..self.clone() });
-        }
-        out
+    fn smaller(&self) -> impl Iterator<Item = Self> {
+        let bones = smaller_bones(&self.bones, self.n).map(|(bones, n)| DeriveInput { bones, n, ..self.clone() });
+        bones.chain(smaller_room(self.room, self.lengths()).map(|room| DeriveInput { room, ..self.clone() }))
     }
 
     fn text(&self) -> String {

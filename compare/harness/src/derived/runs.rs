@@ -40,8 +40,8 @@ pub fn run(library: &dyn Derive, folder: &Path, seed: u64, extent: Extent, threa
 struct Count(usize);
 
 impl Input for Count {
-    fn smaller(&self) -> Vec<Self> {
-        [self.0 / 2, self.0.saturating_sub(1)].into_iter().filter(|&n| n < self.0).map(Count).collect()
+    fn smaller(&self) -> impl Iterator<Item = Self> {
+        [self.0 / 2, self.0.saturating_sub(1)].into_iter().filter(|&n| n < self.0).map(Count)
     }
 
     fn text(&self) -> String {
@@ -58,8 +58,10 @@ struct Runs<'a> {
 impl Runs<'_> {
     fn one(&self, tally: &mut Tally, input: &DeriveInput) -> Result<(), Difference> {
         let name = input.call.name();
-        tally.count(name, status(input.status()));
-        compare(&Place { folder: self.folder, name, seed: self.seed }, input, |i| ours(self.library, i), rust)
+        let place = Place { folder: self.folder, name, seed: self.seed };
+        let answer = compare(&place, input, |i| ours(self.library, i), rust)?;
+        tally.count(name, status(answer.status));
+        Ok(())
     }
 
     /// One call with tables exactly as long as they must be.

@@ -18,11 +18,11 @@ pub struct ReadInput {
 }
 
 impl Input for ReadInput {
-    fn smaller(&self) -> Vec<Self> {
+    fn smaller(&self) -> impl Iterator<Item = Self> {
         let tables = [(0, self.translation), (self.rotation, 0), (self.rotation / 2, self.translation / 2)];
         let less = tables.into_iter().filter(|&(r, t)| r + t < self.rotation + self.translation);
         let less = less.map(|(rotation, translation)| ReadInput { rotation, translation, ..self.clone() });
-        self.section.smaller().into_iter().map(|section| ReadInput { section, ..self.clone() }).chain(less).collect()
+        self.section.smaller().map(|section| ReadInput { section, ..self.clone() }).chain(less)
     }
 
     fn text(&self) -> String {

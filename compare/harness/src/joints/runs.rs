@@ -37,8 +37,8 @@ pub fn run(library: &dyn Joints, folder: &Path, seed: u64, extent: Extent, threa
 struct Nothing;
 
 impl Input for Nothing {
-    fn smaller(&self) -> Vec<Self> {
-        Vec::new()
+    fn smaller(&self) -> impl Iterator<Item = Self> {
+        std::iter::empty()
     }
 
     fn text(&self) -> String {
@@ -58,13 +58,15 @@ impl Runs<'_> {
     }
 
     fn read(&self, tally: &mut Tally, input: &ReadInput) -> Result<(), Difference> {
-        tally.count("joints read", status(read::rust(input).status));
-        compare(&self.place("joints_read"), input, |i| read::ours(self.library, i), read::rust)
+        let answer = compare(&self.place("joints_read"), input, |i| read::ours(self.library, i), read::rust)?;
+        tally.count("joints read", status(answer.status));
+        Ok(())
     }
 
     fn write(&self, tally: &mut Tally, input: &WriteInput) -> Result<(), Difference> {
-        tally.count("joints write", status(write::rust(input).status));
-        compare(&self.place("joints_write"), input, |i| write::ours(self.library, i), write::rust)
+        let answer = compare(&self.place("joints_write"), input, |i| write::ours(self.library, i), write::rust)?;
+        tally.count("joints write", status(answer.status));
+        Ok(())
     }
 
     fn fresh(&self, tally: &mut Tally) -> Result<(), Difference> {
@@ -73,8 +75,9 @@ impl Runs<'_> {
             self.library.fresh_rotation_limit(words.array());
             (words.back::<u32>(&mut intact), intact)
         };
+        compare(&self.place("fresh_limit"), &Nothing, ours, |_| (fresh_rotation_limit().other.to_vec(), true))?;
         tally.count("fresh limit", "done");
-        compare(&self.place("fresh_limit"), &Nothing, ours, |_| (fresh_rotation_limit().other.to_vec(), true))
+        Ok(())
     }
 
     /// Counts of 0 and 65,535 at pointers that are 0, good, the end, past it and in neither half.
@@ -119,9 +122,7 @@ impl Runs<'_> {
     /// Every truncation of either half of a good section.
     fn truncations(&self, tally: &mut Tally) -> Result<(), Difference> {
         let whole = good(&mut Rng::new(self.seed));
-        let system = (0..=whole.system.len()).map(|n| Section { system: whole.system[..n].to_vec(), ..whole.clone() });
-        let graphics = (0..whole.graphics.len()).map(|n| Section { graphics: whole.graphics[..n].to_vec(), ..whole.clone() });
-        for section in system.chain(graphics) {
+        for section in whole.truncations() {
             let (rotation, translation) = (rows::ROTATION * 3, rows::TRANSLATION * 3);
             self.read(tally, &ReadInput { section, rotation, translation, dirt: self.seed })?;
         }

@@ -32,14 +32,14 @@ fn smaller_words(words: &[u32]) -> Vec<Vec<u32>> {
 }
 
 impl Input for WriteInput {
-    fn smaller(&self) -> Vec<Self> {
+    fn smaller(&self) -> impl Iterator<Item = Self> {
         let one_less = [(self.r.checked_sub(1), Some(self.t)), (Some(self.r), self.t.checked_sub(1))];
         let asked = one_less.into_iter().filter_map(|(r, t)| Some((r?, t?)));
         let mut out: Vec<Self> = asked.map(|(r, t)| WriteInput { r, t, ..self.clone() }).collect();
         out.extend(smaller_words(&self.rotation).into_iter().map(|rotation| WriteInput { rotation, ..self.clone() }));
         out.extend(smaller_words(&self.translation).into_iter().map(|translation| WriteInput { translation, ..self.clone() }));
         out.extend(self.out.checked_sub(1).map(|out| WriteInput { out, ..self.clone() }));
-        out
+        out.into_iter()
     }
 
     fn text(&self) -> String {

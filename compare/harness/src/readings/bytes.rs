@@ -1,6 +1,6 @@
 //! READINGS, "Bytes that must exist": shown by cutting sections.
 
-use super::ask::{cut, joints_refusal, reading, refusal};
+use super::ask::{cut, joints_refusal, reading, refusal, write};
 use cases::records::{bone, joints, matrix, skeleton};
 use cases::trial::{control_rig, plain_bone, NONE};
 use cases::{units, Hand, Section};
@@ -95,7 +95,7 @@ pub fn name_needs_0_bytes() {
 /// Constants, padding, the count at 26, the block's own count and the second index; the kind word is
 /// handed back but not examined.
 pub fn never_examined() {
-    let good = Section::written(oracle::write(&control_rig(), [0; 4]).section());
+    let good = Section::written(write(&control_rig()).section());
     let as_written = reading(&good);
     let block = (good.pointer(skeleton::BONES) - SYSTEM_BASE) as usize - 16;
     let mut unread: Vec<usize> = [0..16, 26..28, 72..80, 92..94, 98..112, block..block + 16].into_iter().flatten().collect();

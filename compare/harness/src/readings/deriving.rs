@@ -1,10 +1,11 @@
 //! READINGS, "Deriving": chains, parents, children and the walk.
 
+use super::ask::{build_bone_tags, build_indices, build_transformations};
 use crate::model;
 use cases::rigs::rig;
 use cases::trial::{plain_bone, rig_of_parents, NONE, ONE};
 use cases::Rng;
-use oracle::{build_bone_tags, build_indices, build_transformations, Bone};
+use oracle::Bone;
 
 /// Bones with these (index, parent) pairs.
 fn rig_of(pairs: &[(i16, i16)]) -> Vec<Bone> {

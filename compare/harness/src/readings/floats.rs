@@ -1,7 +1,8 @@
 //! READINGS, "Deriving": float arithmetic.
 
+use super::ask::build_transformations;
 use cases::trial::{plain_bone, NONE, ONE};
-use oracle::{build_transformations, settle_nan, Bone, Mat4, Matrix, Vec3, Vec4, SETTLED_NAN};
+use oracle::{settle_nan, Bone, Mat4, Matrix, Vec3, Vec4, SETTLED_NAN};
 
 const MINUS_ZERO: u32 = 0x8000_0000;
 const INFINITY: u32 = 0x7F80_0000;

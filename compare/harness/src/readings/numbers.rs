@@ -1,6 +1,6 @@
 //! READINGS, "Numbers confirmed by running".
 
-use oracle::{fresh_rotation_limit, num_hash_buckets, rage_joaat};
+use super::ask::{fresh_rotation_limit, num_hash_buckets, rage_joaat};
 
 /// The least and the greatest count of each answer, from 0 to 65,535.
 pub fn ladder() {

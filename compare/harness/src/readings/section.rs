@@ -1,15 +1,15 @@
 //! READINGS, "Lookup, check, program": the lines that rest on the published reading.
 
-use super::ask::{bones, check, refusal};
+use super::ask::{bones, check, rage_joaat, refusal, write};
 use crate::model::joaat;
 use cases::records::skeleton as s;
 use cases::trial::{plain_bone, NONE};
 use cases::{Hand, Section};
-use oracle::{rage_joaat, Verdict};
+use oracle::Verdict;
 
 /// A bucket pointer 0 with a stored bucket count is no chain at all.
 pub fn chains_are_those_of_the_list_read() {
-    let mut section = Section::written(oracle::write(&[plain_bone(0, NONE)], [0; 4]).section());
+    let mut section = Section::written(write(&[plain_bone(0, NONE)]).section());
     section.set_count(s::BUCKET_COUNT, 11);
     assert_eq!(check(&section), Verdict::Accepted(1));
 }

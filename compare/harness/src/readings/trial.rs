@@ -1,10 +1,10 @@
 //! The trial rigs that 01 lists, run with the published Rust.
 
-use super::ask::{check, reading, refusal};
+use super::ask::{build_bone_tags, build_indices, build_transformations, check, num_hash_buckets, reading, refusal, write};
 use cases::records::skeleton as s;
 use cases::trial::{plain_bone, rig_of_parents, NONE};
 use cases::{Hand, Section};
-use oracle::{build_bone_tags, build_indices, build_transformations, num_hash_buckets, write, Bone, Verdict, SYSTEM_BASE};
+use oracle::{Bone, Verdict, SYSTEM_BASE};
 
 pub fn trial_buckets() {
     assert_eq!([10, 11, 65_166, 65_167].map(num_hash_buckets), [11, 29, 65_167, 65_521]);
@@ -36,14 +36,14 @@ pub fn trial_singular() {
 
 /// No bones: 112 bytes, accepted.
 pub fn trial_no_bones() {
-    let section = Section::written(write(&[], [0; 4]).section());
+    let section = Section::written(write(&[]).section());
     assert_eq!(section.system.len(), 112);
     assert_eq!(check(&section), Verdict::Accepted(0));
 }
 
 /// One root, index 0, no name: 352 bytes, bones pointer 50000080 hex.
 pub fn trial_one_root() {
-    let section = Section::written(write(&[plain_bone(0, NONE)], [0; 4]).section());
+    let section = Section::written(write(&[plain_bone(0, NONE)]).section());
     assert_eq!((section.system.len(), section.pointer(s::BONES)), (352, SYSTEM_BASE + 0x80));
     assert_eq!(check(&section), Verdict::Accepted(1));
 }

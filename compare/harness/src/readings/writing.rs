@@ -1,15 +1,16 @@
 //! READINGS, "Writing": sections made by the published `Block::write` bodies at 01's places.
 
-use super::ask::reading;
+use super::ask::{fresh_rotation_limit, joints_read, joints_write, reading, write};
 use cases::records::skeleton as s;
-use cases::trial::{plain_bone, rig_of_chain, NONE};
-use cases::Section;
-use oracle::{fresh_rotation_limit, joints_read, joints_write, write, Bone, JointsAnswer, RotationLimit, Written, SYSTEM_BASE};
+use cases::rigs::{broad, LONGEST_WRITTEN};
+use cases::trial::{plain_bone, NONE};
+use cases::{Rng, Section};
+use oracle::{Bone, JointsAnswer, RotationLimit, Written};
 
 fn named(names: &[Option<&[u8]>]) -> Section {
     let bones: Vec<Bone> =
         names.iter().enumerate().map(|(i, name)| Bone { name: name.map(<[u8]>::to_vec), ..plain_bone(i, NONE) }).collect();
-    Section::written(write(&bones, [0; 4]).section())
+    Section::written(write(&bones).section())
 }
 
 /// The part is aligned, the names in it are not; equal names are written twice; no name, no part.
@@ -32,21 +33,9 @@ pub fn empty_name_is_368_bytes() {
 
 /// 65,535 bones, each with a name of 255 bytes, and 65,528 child entries: 32,243,232 bytes.
 pub fn largest_section() {
-    // A chain of 8,192 bones by index, and the rest the children of nobody. As a position every parent is
-    // at most two steps from the root, so that the published walk and child list stay quick.
-    const CHAIN: usize = 8_192;
-    const FIRST: i16 = 20_000;
-    let bones: Vec<Bone> = (0..65_535usize)
-        .map(|i| {
-            let (index, parent) = match i {
-                0 => (FIRST, NONE),
-                1..CHAIN => (FIRST + i as i16, FIRST + i as i16 - 1),
-                _ => (1, 0),
-            };
-            Bone { index, parent, name: Some(vec![b'n'; 255]), ..plain_bone(i, NONE) }
-        })
-        .collect();
-    let section = Section::written(write(&bones, [0; 4]).section());
+    let mut bones = broad(&mut Rng::new(1), 65_535, LONGEST_WRITTEN);
+    bones.iter_mut().for_each(|b| b.name = Some(vec![b'n'; 255]));
+    let section = Section::written(write(&bones).section());
     assert_eq!(section.system.len(), 32_243_232);
     assert_eq!((section.count(s::BONE_COUNT), section.count(s::CHILD_COUNT)), (65_535, 65_528));
     assert_eq!(reading(&section).bones, Some(bones));
@@ -54,10 +43,11 @@ pub fn largest_section() {
 
 /// A chain of 8,192 bones has 65,528 child entries; 8,193 bones have 65,536, which is 3.
 pub fn child_entries_65528_and_65536() {
-    let section = Section::written(write(&rig_of_chain(8_192), [0; 4]).section());
+    let chain = |bones: usize| broad(&mut Rng::new(1), bones, bones);
+    let section = Section::written(write(&chain(8_192)).section());
     assert_eq!(section.count(s::CHILD_COUNT), 65_528);
     assert_eq!(reading(&section).children.map(|c| c.len()), Some(65_528));
-    assert_eq!(write(&rig_of_chain(8_193), [0; 4]), Written::Refused(3));
+    assert_eq!(write(&chain(8_193)), Written::Refused(3));
 }
 
 /// The slots 2 and 23 to 28 of the other words are never written.
@@ -70,7 +60,7 @@ pub fn rotation_limit_named_slots_win() {
         let named = slot == 2 || (23..=28).contains(&slot);
         assert_eq!(joints_write(&[other], &[]) == written, named, "slot {slot}");
     }
-    let JointsAnswer::Read(back) = joints_read(&written.section(), &[], SYSTEM_BASE) else { panic!("not read") };
+    let JointsAnswer::Read(back) = joints_read(&Section::written(written.section())) else { panic!("not read") };
     let back = back.rotations.unwrap()[0];
     assert_eq!((back.id, back.second, back.min, back.max), (1, 2, [3, 4, 5], [6, 7, 8]));
     assert_eq!(back.other[2], 0x0002_0001);

@@ -1,0 +1,45 @@
+//! The single fields.
+
+use super::Rig;
+use crate::Fields;
+
+extern "C" {
+    fn rig_u16_at(s: *const u8, s_len: usize, at: usize) -> u16;
+    fn rig_u32_at(s: *const u8, s_len: usize, at: usize) -> u32;
+    fn rig_u64_at(s: *const u8, s_len: usize, at: usize) -> u64;
+    fn rig_put16(d: *mut u8, d_len: usize, at: usize, v: u16) -> u8;
+    fn rig_put32(d: *mut u8, d_len: usize, at: usize, v: u32) -> u8;
+    fn rig_put64(d: *mut u8, d_len: usize, at: usize, v: u64) -> u8;
+}
+
+/// A returned bool is one byte, 0 or 1.
+fn truth(byte: u8) -> bool {
+    assert!(byte <= 1, "a bool came back as {byte}");
+    byte == 1
+}
+
+impl Fields for Rig {
+    fn u16_at(&self, s: &[u8], at: usize) -> u16 {
+        unsafe { rig_u16_at(s.as_ptr(), s.len(), at) }
+    }
+
+    fn u32_at(&self, s: &[u8], at: usize) -> u32 {
+        unsafe { rig_u32_at(s.as_ptr(), s.len(), at) }
+    }
+
+    fn u64_at(&self, s: &[u8], at: usize) -> u64 {
+        unsafe { rig_u64_at(s.as_ptr(), s.len(), at) }
+    }
+
+    fn put16(&self, d: &mut [u8], at: usize, v: u16) -> bool {
+        truth(unsafe { rig_put16(d.as_mut_ptr(), d.len(), at, v) })
+    }
+
+    fn put32(&self, d: &mut [u8], at: usize, v: u32) -> bool {
+        truth(unsafe { rig_put32(d.as_mut_ptr(), d.len(), at, v) })
+    }
+
+    fn put64(&self, d: &mut [u8], at: usize, v: u64) -> bool {
+        truth(unsafe { rig_put64(d.as_mut_ptr(), d.len(), at, v) })
+    }
+}
