@@ -43,7 +43,7 @@ pub fn floats4(x: u32, y: u32, z: u32, w: u32) -> Vec4
 }
 
 // The floats of three and of four words that are no NaN's, which are taken as they stand.
-pub fn plain3(x: u32, y: u32, z: u32) -> Vec3
+pub(crate) fn plain3(x: u32, y: u32, z: u32) -> Vec3
     requires { ⌜ Plain x × Plain y × Plain z ⌝ }
     ensures answer { λ r. ⌜ r ≡ vec3 (floatOf x) (floatOf y) (floatOf z) ⌝ }
 {
@@ -54,7 +54,7 @@ pub fn plain3(x: u32, y: u32, z: u32) -> Vec3
     }
 }
 
-pub fn plain4(x: u32, y: u32, z: u32, w: u32) -> Vec4
+pub(crate) fn plain4(x: u32, y: u32, z: u32, w: u32) -> Vec4
     requires { ⌜ Plain x × Plain y × Plain z × Plain w ⌝ }
     ensures answer { λ r. ⌜ r ≡ vec4 (floatOf x) (floatOf y) (floatOf z) (floatOf w) ⌝ }
 {
