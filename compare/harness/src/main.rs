@@ -21,7 +21,6 @@ mod skeletons;
 mod smaller;
 mod store;
 mod tally;
-mod text;
 
 use extent::Extent;
 use options::Options;
@@ -29,6 +28,9 @@ use std::fmt::Display;
 use std::path::Path;
 use std::process::ExitCode;
 use std::time::Instant;
+
+/// The stored sample, from the folder that the harness runs in.
+const STORED: &str = "../crates/replay/stdin";
 
 fn main() -> ExitCode {
     let result = Options::parse(std::env::args().skip(1)).and_then(|o| run(&o));
@@ -43,7 +45,7 @@ fn main() -> ExitCode {
 
 fn run(o: &Options) -> Result<(), String> {
     if let Some(file) = &o.store {
-        return store::run(Path::new(file));
+        return store::write(Path::new(file));
     }
     let failures = Path::new("target/failures");
     let _ = std::fs::remove_dir_all(failures);
@@ -60,6 +62,7 @@ fn run(o: &Options) -> Result<(), String> {
     }
     stage("readings", if link::LINKED { "shown by both" } else { "shown by the Rust" }, readings::run)?;
     println!("the Rust alone:");
+    stage("stored sample", "cases as the Rust has them", || store::check(Path::new(STORED)))?;
     stage("deriving", "rigs", || rigs::derive(o.seed, 20_000 * times))?;
     stage("writing and reading back", "rigs", || rigs::write_and_read_back(o.seed, 20_000 * times))?;
     stage("sections scattered over both halves", "rigs", || rigs::scattered(o.seed, 20_000 * times))?;

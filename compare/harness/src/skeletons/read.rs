@@ -108,7 +108,8 @@ pub fn rust(i: &ReadInput) -> ReadAnswer {
     Asked::of(&i.section).lent(&i.lengths)
 }
 
-fn fields(r: &Reading) -> SkeletonFields {
+/// What our library tells of a reading.
+pub fn fields(r: &Reading) -> SkeletonFields {
     fn list<T>(list: &Option<Vec<T>>, words: usize) -> [usize; 2] {
         list.as_ref().map_or([0, 0], |items| [1, words * items.len()])
     }

@@ -1,0 +1,105 @@
+// Joints replayed (document 01, "Joints and names").
+use crate::tables;
+use joints::read::JointsRead;
+use joints::write::JointsWritten;
+
+// ---- reading
+
+// the parts
+const SYSTEM: u16 = 2;
+
+const GRAPHICS: u16 = 3;
+
+const FIELDS: u16 = 4;
+
+const ROTATION: u16 = 5;
+
+const TRANSLATION: u16 = 6;
+
+fn answer_alone(answer: u32) -> [usize; 8] {
+    let mut fields = [0usize; 8];
+    fields[0] = answer as usize;
+    fields
+}
+
+// The answer, and behind it the kind word, the stored counts, and of each list whether it stands and how many limits it has; zeros
+// where nothing is read.
+fn fields_of(r: JointsRead) -> [usize; 8] {
+    match r {
+        JointsRead::Nothing => answer_alone(answers::NOTHING),
+        JointsRead::Read(j) => {
+            let r = j.rotation;
+            let t = j.translation;
+            [
+                tables::DONE as usize,
+                j.kind as usize,
+                j.rotation_count as usize,
+                j.translation_count as usize,
+                r.stands as usize,
+                r.rows,
+                t.stands as usize,
+                t.rows,
+            ]
+        }
+        JointsRead::Refused(e) => answer_alone(format::code(e)),
+    }
+}
+
+pub fn read_agrees(case: &[u8], root: u64) -> bool {
+    let mut rotation = tables::dirty32();
+    let mut translation = tables::dirty32();
+    let r = joints::read::read(
+        sample::part(case, SYSTEM),
+        sample::part(case, GRAPHICS),
+        root,
+        &mut rotation,
+        &mut translation,
+    );
+    let fields = fields_of(r);
+    tables::all(
+        sample::same_sizes(&fields, sample::part(case, FIELDS)),
+        sample::same32(&rotation, sample::part(case, ROTATION)),
+        sample::same32(&translation, sample::part(case, TRANSLATION)),
+        true,
+    )
+}
+
+// ---- writing
+
+// the parts
+const ROTATION_LIMITS: u16 = 2;
+
+const TRANSLATION_LIMITS: u16 = 3;
+
+const SECTION: u16 = 4;
+
+fn written_as(w: JointsWritten, answer: u32, size: usize) -> bool {
+    match w {
+        JointsWritten::Done(n) => answer == tables::DONE && n == size,
+        JointsWritten::Refused(e) => answer == format::code(e),
+    }
+}
+
+pub fn write_agrees(case: &[u8], r: usize, t: usize, answer: u32) -> bool {
+    let rotation = sample::loaded32(sample::part(case, ROTATION_LIMITS));
+    let translation = sample::loaded32(sample::part(case, TRANSLATION_LIMITS));
+    let mut out = tables::dirty8();
+    let w = joints::write::write(&rotation, r, &translation, t, &mut out);
+    let want = sample::part(case, SECTION);
+    tables::all(
+        written_as(w, answer, want.len()),
+        sample::same8(&out, want, tables::DIRT8),
+        true,
+        true,
+    )
+}
+
+// ---- the fresh rotation limit
+
+// the part with its slots
+const SLOTS: u16 = 2;
+
+pub fn fresh_agrees(case: &[u8]) -> bool {
+    let slots = joints::limits::fresh_rotation_limit();
+    sample::same32(&slots, sample::part(case, SLOTS))
+}

@@ -1,0 +1,12 @@
+// Hashes replayed (document 01, "Joints and names").
+
+// the parts
+const NAME: u16 = 2;
+
+const HASH: u16 = 3;
+
+pub fn hash_agrees(case: &[u8]) -> bool {
+    let have = hash::rage_joaat(sample::part(case, NAME));
+    let want = sample::number32(sample::part(case, HASH), 0);
+    have == want
+}

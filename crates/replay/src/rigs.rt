@@ -1,0 +1,89 @@
+// Deriving replayed (document 01, "Deriving").
+use crate::tables;
+use derive::indices::Indexed;
+use derive::tags::Tagged;
+use matrices::matrices::Transformed;
+
+// the parts
+const BONES: u16 = 2;
+
+const BUCKETS: u16 = 3;
+
+const ENTRIES: u16 = 4;
+
+const PARENTS: u16 = 5;
+
+const CHILDREN: u16 = 6;
+
+const INVERSE: u16 = 7;
+
+const LOCAL: u16 = 8;
+
+// ---- chains
+
+fn tagged_as(r: Tagged, answer: u32, count: usize) -> bool {
+    match r {
+        Tagged::Done(n) => answer == tables::DONE && n == count,
+        Tagged::Refused(e) => answer == format::code(e),
+    }
+}
+
+pub fn tags_agree(case: &[u8], n: usize, answer: u32) -> bool {
+    let bones = sample::loaded32(sample::part(case, BONES));
+    let mut buckets = tables::dirty32();
+    let mut entries = tables::dirty32();
+    let r = derive::tags::build_bone_tags(&bones, n, &mut buckets, &mut entries);
+    let want = sample::part(case, BUCKETS);
+    tables::all(
+        tagged_as(r, answer, want.len() / 4),
+        sample::same32(&buckets, want),
+        sample::same32(&entries, sample::part(case, ENTRIES)),
+        true,
+    )
+}
+
+// ---- parents and children
+
+fn indexed_as(r: Indexed, answer: u32, count: usize) -> bool {
+    match r {
+        Indexed::Done(n) => answer == tables::DONE && n == count,
+        Indexed::Refused(e) => answer == format::code(e),
+    }
+}
+
+pub fn indices_agree(case: &[u8], n: usize, answer: u32) -> bool {
+    let bones = sample::loaded32(sample::part(case, BONES));
+    let mut parents = tables::dirty16();
+    let mut children = tables::dirty16();
+    let mut pending = tables::dirty32();
+    let r = derive::indices::build_indices(&bones, n, &mut parents, &mut children, &mut pending);
+    let want = sample::part(case, CHILDREN);
+    tables::all(
+        indexed_as(r, answer, want.len() / 2),
+        sample::same16(&parents, sample::part(case, PARENTS)),
+        sample::same16(&children, want),
+        sample::same32(&pending, &case[..0]),
+    )
+}
+
+// ---- matrices
+
+fn transformed_as(r: Transformed, answer: u32) -> bool {
+    match r {
+        Transformed::Done => answer == tables::DONE,
+        Transformed::Refused(e) => answer == format::code(e),
+    }
+}
+
+pub fn matrices_agree(case: &[u8], n: usize, answer: u32) -> bool {
+    let bones = sample::loaded32(sample::part(case, BONES));
+    let mut inverse = tables::dirty32();
+    let mut local = tables::dirty32();
+    let r = matrices::matrices::build_transformations(&bones, n, &mut inverse, &mut local);
+    tables::all(
+        transformed_as(r, answer),
+        sample::same32(&inverse, sample::part(case, INVERSE)),
+        sample::same32(&local, sample::part(case, LOCAL)),
+        true,
+    )
+}
