@@ -45,7 +45,7 @@ fn fields_of(r: JointsRead) -> [usize; 8] {
     }
 }
 
-pub fn read_agrees(case: &[u8], root: u64) -> bool {
+pub(crate) fn read_agrees(case: &[u8], root: u64) -> bool {
     let mut rotation = tables::dirty32();
     let mut translation = tables::dirty32();
     let r = joints::read::read(
@@ -80,7 +80,7 @@ fn written_as(w: JointsWritten, answer: u32, size: usize) -> bool {
     }
 }
 
-pub fn write_agrees(case: &[u8], r: usize, t: usize, answer: u32) -> bool {
+pub(crate) fn write_agrees(case: &[u8], r: usize, t: usize, answer: u32) -> bool {
     let rotation = sample::loaded32(sample::part(case, ROTATION_LIMITS));
     let translation = sample::loaded32(sample::part(case, TRANSLATION_LIMITS));
     let mut out = tables::dirty8();
@@ -99,7 +99,7 @@ pub fn write_agrees(case: &[u8], r: usize, t: usize, answer: u32) -> bool {
 // the part with its slots
 const SLOTS: u16 = 2;
 
-pub fn fresh_agrees(case: &[u8]) -> bool {
+pub(crate) fn fresh_agrees(case: &[u8]) -> bool {
     let slots = joints::limits::fresh_rotation_limit();
     sample::same32(&slots, sample::part(case, SLOTS))
 }

@@ -5,7 +5,7 @@ const NAME: u16 = 2;
 
 const HASH: u16 = 3;
 
-pub fn hash_agrees(case: &[u8]) -> bool {
+pub(crate) fn hash_agrees(case: &[u8]) -> bool {
     let have = hash::rage_joaat(sample::part(case, NAME));
     let want = sample::number32(sample::part(case, HASH), 0);
     have == want

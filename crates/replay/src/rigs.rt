@@ -28,7 +28,7 @@ fn tagged_as(r: Tagged, answer: u32, count: usize) -> bool {
     }
 }
 
-pub fn tags_agree(case: &[u8], n: usize, answer: u32) -> bool {
+pub(crate) fn tags_agree(case: &[u8], n: usize, answer: u32) -> bool {
     let bones = sample::loaded32(sample::part(case, BONES));
     let mut buckets = tables::dirty32();
     let mut entries = tables::dirty32();
@@ -51,7 +51,7 @@ fn indexed_as(r: Indexed, answer: u32, count: usize) -> bool {
     }
 }
 
-pub fn indices_agree(case: &[u8], n: usize, answer: u32) -> bool {
+pub(crate) fn indices_agree(case: &[u8], n: usize, answer: u32) -> bool {
     let bones = sample::loaded32(sample::part(case, BONES));
     let mut parents = tables::dirty16();
     let mut children = tables::dirty16();
@@ -75,7 +75,7 @@ fn transformed_as(r: Transformed, answer: u32) -> bool {
     }
 }
 
-pub fn matrices_agree(case: &[u8], n: usize, answer: u32) -> bool {
+pub(crate) fn matrices_agree(case: &[u8], n: usize, answer: u32) -> bool {
     let bones = sample::loaded32(sample::part(case, BONES));
     let mut inverse = tables::dirty32();
     let mut local = tables::dirty32();

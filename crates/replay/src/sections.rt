@@ -126,7 +126,7 @@ fn rows_into(case: &[u8], root: u64, run: u32, want: &[u8], answer: u32) -> bool
     )
 }
 
-pub fn read_agrees(case: &[u8], root: u64, run: u32, answer: u32) -> bool {
+pub(crate) fn read_agrees(case: &[u8], root: u64, run: u32, answer: u32) -> bool {
     if run < sample::FULL {
         return rows_into(case, root, run, &case[..0], answer);
     }
@@ -147,7 +147,7 @@ fn looked_as(r: Looked, answer: u32, position: u32) -> bool {
     }
 }
 
-pub fn lookup_agrees(case: &[u8], root: u64, answer: u32) -> bool {
+pub(crate) fn lookup_agrees(case: &[u8], root: u64, answer: u32) -> bool {
     let others = sample::part(case, OTHERS);
     let tag = fields::u16_at(others, 4 * TAG);
     let r = lookup::lookup(

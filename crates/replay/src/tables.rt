@@ -7,31 +7,31 @@ pub const DONE: u32 = 0;
 
 pub const DIRT8: u8 = 0xA5;
 
-pub fn dirty8() -> [u8; 2048]
+pub(crate) fn dirty8() -> [u8; 2048]
     ensures { λ r. ⌜ 2048 ≡ length r ⌝ }
 {
     [DIRT8; 2048]
 }
 
-pub fn dirty16() -> [u16; 256]
+pub(crate) fn dirty16() -> [u16; 256]
     ensures { λ r. ⌜ 256 ≡ length r ⌝ }
 {
     [0xA5A5; 256]
 }
 
-pub fn dirty32() -> [u32; 672]
+pub(crate) fn dirty32() -> [u32; 672]
     ensures { λ r. ⌜ 672 ≡ length r ⌝ }
 {
     [0xA5A5_A5A5; 672]
 }
 
-pub fn dirty64() -> [u64; 512]
+pub(crate) fn dirty64() -> [u64; 512]
     ensures { λ r. ⌜ 512 ≡ length r ⌝ }
 {
     [0xA5A5_A5A5_A5A5_A5A5; 512]
 }
 
 // Whether all comparisons agree.
-pub fn all(a: bool, b: bool, c: bool, d: bool) -> bool {
+pub(crate) fn all(a: bool, b: bool, c: bool, d: bool) -> bool {
     a && b && c && d
 }

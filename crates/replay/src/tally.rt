@@ -23,7 +23,7 @@ fn count_at(counts: &[u32], at: usize) -> u32 {
 }
 
 // Notes a run of a case, which must give an answer, and names the first that differs.
-pub fn note(counts: &mut [u32], operation: u32, number: u32, run: u32, answer: u32, agrees: bool) {
+pub(crate) fn note(counts: &mut [u32], operation: u32, number: u32, run: u32, answer: u32, agrees: bool) {
     let at = 2 * (operation as usize);
     if agrees {
         sample::count(counts, at);
@@ -88,7 +88,7 @@ fn print_all(counts: &[u32]) {
 }
 
 // Prints a line for each operation and each answer, then how many runs differ.
-pub fn print(counts: &[u32]) {
+pub(crate) fn print(counts: &[u32]) {
     print_all(counts);
     print_line(
         b"in all agree ",
