@@ -23,7 +23,14 @@ fn count_at(counts: &[u32], at: usize) -> u32 {
 }
 
 // Notes a run of a case, which must give an answer, and names the first that differs.
-pub(crate) fn note(counts: &mut [u32], operation: u32, number: u32, run: u32, answer: u32, agrees: bool) {
+pub(crate) fn note(
+    counts: &mut [u32],
+    operation: u32,
+    number: u32,
+    run: u32,
+    answer: u32,
+    agrees: bool,
+) {
     let at = 2 * (operation as usize);
     if agrees {
         sample::count(counts, at);
