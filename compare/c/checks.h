@@ -1,0 +1,16 @@
+/* What the program asks of the library. Each takes back all that it lent. */
+#ifndef CHECKS_H
+#define CHECKS_H
+
+/* of the sections in these files */
+void whole_horse(const char *path);
+void cut_horse(const char *path);
+void damaged_horses(const char *path);
+
+void bones_by_hand(void);
+void fields(void);
+void bucket_counts(void);
+void hashes(void);
+void joints(void);
+
+#endif

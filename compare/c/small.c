@@ -1,0 +1,200 @@
+/* Fields, bucket counts, hashes and joints. */
+#include "checks.h"
+#include "lent.h"
+#include "rig.h"
+
+#include <string.h>
+
+/* ---- fields: each offset of a slice, and one that would wrap ---- */
+
+static void field_at(struct bytes d, size_t at)
+{
+    static const uint8_t stored[8] = {0xEF, 0xCD, 0xAB, 0x89, 0x67, 0x45, 0x23, 0x01};
+    const uint64_t v = UINT64_C(0x0123456789ABCDEF);
+    for (size_t width = 2; width <= 8; width *= 2) {
+        bool stands = at <= d.len && width <= d.len - at;
+        size_t start = stands ? at : 0, end = stands ? at + width : 0;
+        soil();
+        bool put = width == 2 ? rig_put16(LENT(d), at, (uint16_t)v)
+                 : width == 4 ? rig_put32(LENT(d), at, (uint32_t)v)
+                              : rig_put64(LENT(d), at, v);
+        expect_number(put, stands, "rig_put%zu at %zu", 8 * width, at);
+        expect(same(d.at + start, stored, end - start), "the bytes of rig_put%zu at %zu", 8 * width, at);
+        expect(all(d.at, DIRT, start) && all(d.at + end, DIRT, d.len - end), "the bytes beside rig_put%zu at %zu", 8 * width, at);
+        uint64_t got = width == 2 ? rig_u16_at(LENT(d), at) : width == 4 ? rig_u32_at(LENT(d), at) : rig_u64_at(LENT(d), at);
+        uint64_t wanted = stands ? v & UINT64_MAX >> (64 - 8 * width) : 0;
+        expect_number(got, wanted, "rig_u%zu_at %zu", 8 * width, at);
+    }
+}
+
+void fields(void)
+{
+    for (size_t len = 0; len <= 12; len++) {
+        struct bytes d = lend_bytes("bytes", len);
+        for (size_t at = 0; at <= len + 1; at++)
+            field_at(d, at);
+        field_at(d, SIZE_MAX);
+    }
+    give_back();
+}
+
+/* ---- bucket counts and hashes ---- */
+
+void bucket_counts(void)
+{
+    static const size_t counts[][2] = {{0, 11}, {10, 11}, {11, 29}, {13, 29}, {65166, 65167}, {65167, 65521}, {SIZE_MAX, 65521}};
+    for (size_t i = 0; i < sizeof counts / sizeof *counts; i++)
+        expect_number(rig_num_hash_buckets(counts[i][0]), counts[i][1], "rig_num_hash_buckets of %zu", counts[i][0]);
+}
+
+void hashes(void)
+{
+    static const struct {
+        const char *name;
+        uint32_t hash;
+    } known[] = {{"", 0}, {"a", 0xCA2E9442}, {"The quick brown fox jumps over the lazy dog", 0x519E91F5}};
+    for (size_t i = 0; i < sizeof known / sizeof *known; i++) {
+        struct bytes s = lend_bytes("a name", strlen(known[i].name));
+        memcpy(s.at, known[i].name, s.len);
+        keep();
+        expect_number(rig_rage_joaat(LENT(s)), known[i].hash, "rig_rage_joaat of \"%s\"", known[i].name);
+    }
+    give_back();
+}
+
+/* ---- joints ---- */
+
+/* how many limits, and more words behind them */
+enum { ROTATIONS = 2, TRANSLATIONS = 3, MORE = 5 };
+
+static struct words lend_fresh(void)
+{
+    const uint32_t o = 0x3F800000, p = 0x40490FDB, m = 0xC0490FDB; /* 1, pi, -pi */
+    const uint32_t slots[RIG_ROTATION_SLOTS] = {0, 0, 0, 1, 3, 0, 0, 0, 0, 0, 0, o, 0, 0, 0, 0, o, 0, 0, 0, m, p, o, 0,
+                                                0, 0, 0, 0, 0, p, m, p, p, m, p, p, m, p, p, m, p, p, m, p, p, m, p, 256};
+    struct words fresh = lend_words("a fresh limit", RIG_ROTATION_SLOTS);
+    rig_fresh_rotation_limit(fresh.at);
+    expect(same(fresh.at, slots, sizeof slots), "the slots of rig_fresh_rotation_limit");
+    return fresh;
+}
+
+/* Gives a row its named fields, each word another, and puts them over their slots too, so that it reads back as it is. */
+static void name_fields(uint32_t *row, size_t least, size_t greatest)
+{
+    static uint32_t next = 0x10001;
+    uint32_t *slots = row + RIG_LIMIT_SLOTS;
+    for (size_t i = RIG_LIMIT_ID; i < RIG_LIMIT_SLOTS; i++)
+        row[i] = next++;
+    slots[2] = row[RIG_LIMIT_ID];
+    memcpy(slots + least, row + RIG_LIMIT_LEAST, 3 * sizeof *row);
+    memcpy(slots + greatest, row + RIG_LIMIT_GREATEST, 3 * sizeof *row);
+}
+
+static struct words lend_rotations(void)
+{
+    struct words fresh = lend_fresh(), rows = lend_words("rotation limits", ROTATIONS * RIG_ROTATION_WORDS);
+    for (size_t i = 0; i < ROTATIONS; i++) {
+        uint32_t *row = rows.at + RIG_ROTATION_WORDS * i;
+        memcpy(row + RIG_LIMIT_SLOTS, fresh.at, fresh.len * sizeof *fresh.at);
+        name_fields(row, 23, 26);
+    }
+    return rows;
+}
+
+static struct words lend_translations(void)
+{
+    struct words rows = lend_words("translation limits", TRANSLATIONS * RIG_TRANSLATION_WORDS);
+    for (size_t i = 0; i < TRANSLATIONS; i++)
+        name_fields(rows.at + RIG_TRANSLATION_WORDS * i, 8, 12);
+    return rows;
+}
+
+/* Writes the limits, after refusals that leave the buffer as it was. */
+static struct bytes write_limits(struct words rotations, struct words translations)
+{
+    const size_t bytes = RIG_JOINTS_BYTES(ROTATIONS, TRANSLATIONS);
+    const struct {
+        size_t r, t, room;
+        uint32_t status;
+    } calls[] = {
+        {RIG_MOST + 1, 0, 0, RIG_TOO_MANY_LIMITS},
+        {RIG_MOST, 0, 0, RIG_TABLE_TOO_SHORT},
+        {ROTATIONS + 1, RIG_MOST + 1, 0, RIG_TOO_MANY_LIMITS},
+        {ROTATIONS + 1, 0, 0, RIG_TABLE_TOO_SHORT},
+        {0, TRANSLATIONS + 1, 0, RIG_TABLE_TOO_SHORT},
+        {ROTATIONS, TRANSLATIONS, bytes - 1, RIG_BUFFER_TOO_SHORT},
+        {ROTATIONS, TRANSLATIONS, bytes + MORE, RIG_OK},
+    };
+    struct bytes out = lend_bytes("out", bytes + MORE);
+    struct sizes count = lend_sizes("count", 1);
+    for (size_t i = 0; i < sizeof calls / sizeof *calls; i++) {
+        size_t r = calls[i].r, t = calls[i].t, written = calls[i].status == RIG_OK ? bytes : 0;
+        soil();
+        uint32_t status = rig_joints_write(LENT(rotations), r, LENT(translations), t, out.at, calls[i].room, count.at);
+        expect_number(status, calls[i].status, "rig_joints_write of %zu and %zu limits", r, t);
+        expect_number(*count.at, written, "the bytes of %zu and %zu limits", r, t);
+        expect(all(out.at + written, DIRT, out.len - written), "out behind %zu and %zu limits", r, t);
+    }
+    return out;
+}
+
+struct joints {
+    struct bytes sys, gfx;
+    struct words rotation, translation, fields;
+};
+
+static uint32_t read_joints(const struct joints *j, uint64_t root)
+{
+    soil();
+    return rig_joints_read(LENT(j->sys), LENT(j->gfx), root, LENT(j->rotation), LENT(j->translation), j->fields.at);
+}
+
+static void limits_are_read(const struct joints *j, struct words rotations, struct words translations)
+{
+    static const uint32_t fields[RIG_JOINTS_READ_FIELDS] = {
+        [RIG_JOINTS_READ_KIND] = RIG_JOINTS_KIND,
+        [RIG_JOINTS_READ_ROTATION_COUNT] = ROTATIONS,
+        [RIG_JOINTS_READ_TRANSLATION_COUNT] = TRANSLATIONS,
+        [RIG_JOINTS_READ_ROTATION] = 1,
+        [RIG_JOINTS_READ_ROTATION_LENGTH] = ROTATIONS,
+        [RIG_JOINTS_READ_TRANSLATION] = 1,
+        [RIG_JOINTS_READ_TRANSLATION_LENGTH] = TRANSLATIONS,
+    };
+    const struct span wanted[] = {SPAN(rotations), SPAN(translations)};
+    struct span tables[] = {SPAN(j->rotation), SPAN(j->translation)};
+    expect_number(read_joints(j, RIG_WRITTEN_ROOT), RIG_OK, "rig_joints_read");
+    expect(same(j->fields.at, fields, sizeof fields), "the fields of rig_joints_read");
+    tables[0].size = wanted[0].size;
+    tables[1].size = wanted[1].size;
+    expect_same(tables, wanted, 2, "rig_joints_read");
+    expect(all(j->rotation.at + rotations.len, 0, MORE * sizeof(uint32_t)), "what lies behind the rotation limits read");
+    expect(all(j->translation.at + translations.len, 0, MORE * sizeof(uint32_t)), "what lies behind the translation limits read");
+}
+
+static void limits_are_not_read(const struct joints *j, uint64_t root, uint32_t status, const char *what)
+{
+    const struct span tables[] = {SPAN(j->rotation), SPAN(j->translation), SPAN(j->fields)};
+    expect_number(read_joints(j, root), status, "rig_joints_read of %s", what);
+    expect_zero(tables, 3, what);
+}
+
+void joints(void)
+{
+    struct words rotations = lend_rotations(), translations = lend_translations();
+    keep();
+    struct bytes sys = write_limits(rotations, translations);
+    keep();
+    struct joints j = {
+        .sys = sys,
+        .gfx = lend_bytes("gfx", 0),
+        .rotation = lend_words("rotation", rotations.len + MORE),
+        .translation = lend_words("translation", translations.len + MORE),
+        .fields = lend_words("fields", RIG_JOINTS_READ_FIELDS),
+    };
+    limits_are_read(&j, rotations, translations);
+    limits_are_not_read(&j, 0, RIG_NONE, "root 0");
+    limits_are_not_read(&j, RIG_GRAPHICS_BASE, RIG_PAST_THE_END, "a root in an empty half");
+    j.translation.len = translations.len - 1;
+    limits_are_not_read(&j, RIG_WRITTEN_ROOT, RIG_TABLE_TOO_SHORT, "limits in a word too few");
+    give_back();
+}

@@ -1,0 +1,328 @@
+/* The skeleton half of a rig exporter, for C and C++: reads, derives, writes, looks up in and checks the skeleton sections
+ * that the game loads. Link librig.a (`rt staticlib rig`; x86-64 Linux) and the C library. What a call answers and leaves is proved
+ * of the library; that these declarations fit it is not proved, but compared and run by compare/c.
+ *
+ * What the caller must see to, since C cannot:
+ * - A table or buffer is lent as a pointer and, behind it, the number of its items. The pointer is aligned for its items, valid
+ *   for that many, and never null, even where the number is 0. A pointer without a number leads to as many items as its
+ *   parameter says, or to one.
+ * - What a call may change (a pointer that is not const) overlaps nothing else that the call is lent.
+ * - Nobody else writes what is lent, or reads what the call may change, until the call returns.
+ * Nothing else is asked: whatever the bytes, addresses, numbers and lengths, a call ends with a result or a refusal. The library
+ * allocates nothing and keeps nothing from one call to the next. A lent table may be longer than is needed. */
+#ifndef RIG_H
+#define RIG_H
+
+#include <stdbool.h>
+#include <stddef.h>
+#include <stdint.h>
+
+#ifdef __cplusplus
+extern "C" {
+#endif
+
+/* ---- answers ---- */
+
+/* What a call with a status answers: RIG_OK, RIG_NONE, or the refusal, by which one knows whose fault it is. */
+enum rig_status {
+    RIG_OK = 0,
+
+    /* the caller's */
+    RIG_TABLE_TOO_SHORT = 1,  /* a lent table has no room for a row that belongs in it: lend a longer one */
+    RIG_BUFFER_TOO_SHORT = 5, /* the output buffer is shorter than the section to write: lend a longer one */
+
+    /* of whoever made the bones or the limits */
+    RIG_TOO_MANY_BONES = 2,    /* more than 65,535 bones, which a section cannot count */
+    RIG_TOO_MANY_CHILDREN = 3, /* more than 65,535 child entries follow from the bones, which a section cannot count; in writing only */
+    RIG_BAD_NAME = 4,          /* a bone's name has over 255 bytes, holds a zero byte or lies outside the name bytes; in writing only */
+    RIG_TOO_MANY_LIMITS = 6,   /* more than 65,535 rotation limits, or translation limits */
+
+    /* of whoever wrote the section */
+    RIG_BAD_ADDRESS = 10,    /* an address that is not 0 and in neither half of the section: not 5xxxxxxx or 6xxxxxxx hex */
+    RIG_PAST_THE_END = 11,   /* an address past the end of its half, or something there that runs past it: the section may be cut off */
+    RIG_OTHER_KIND = 12,     /* an address that was read as one kind of thing before and now as another: two pointers share it */
+    RIG_BONES_POINTER = 13,  /* a bones pointer from 1 to 15: the header in front of the first bone cannot stand */
+    RIG_CHAIN_TOO_LONG = 14, /* a hash chain with more entries than the skeleton has bones, perhaps a circle; in lookup only */
+
+    /* of whoever derived the section's tables; in the check only. They are to be derived again from the bones. */
+    RIG_CHAINS_DIFFER = 21,   /* the hash chains differ from those of the bones' tags: the game may not find some bone by its tag */
+    RIG_PARENTS_DIFFER = 22,  /* the parents list differs from the parents that the bones name */
+    RIG_CHILDREN_DIFFER = 23, /* the child list differs from the one that the bones' indices and parents give */
+    RIG_INVERSE_DIFFER = 24,  /* an inverse (bind) matrix differs from the one that the bone and its parents give */
+    RIG_LOCAL_DIFFER = 25,    /* a local matrix differs from the one that the bone's rotation, translation and scale give */
+
+    /* no refusal: the root address is 0, or no bone is found */
+    RIG_NONE = 100
+};
+
+/* ---- sections ---- */
+
+/* A section is its system bytes (`sys`) and its graphics bytes (`gfx`, often none). An address leads to a byte of one of them:
+ * base plus offset, the offset below 10000000 hex. Stored numbers are little-endian. */
+#define RIG_SYSTEM_BASE UINT64_C(0x50000000)
+#define RIG_GRAPHICS_BASE UINT64_C(0x60000000)
+
+/* where a written section has its skeleton or its joints: the root address to read it by */
+#define RIG_WRITTEN_ROOT RIG_SYSTEM_BASE
+
+enum {
+    /* in a skeleton's record, how far into it the 16-bit counts stand by which the tables for reading are sized */
+    RIG_SKELETON_BUCKET_COUNT_AT = 24,
+    RIG_SKELETON_BONE_COUNT_AT = 94,
+    RIG_SKELETON_CHILD_COUNT_AT = 96,
+
+    /* the kind words that are written; reading takes any */
+    RIG_SKELETON_KIND = 1080114336,
+    RIG_JOINTS_KIND = 1080130656,
+
+    /* the most bones, child entries, or limits of a kind */
+    RIG_MOST = 65535,
+    /* the longest name that is written, in bytes, its ending zero not counted */
+    RIG_LONGEST_NAME = 255
+};
+
+/* ---- rows of the lent tables ---- */
+
+/* Floats are held as their 32 bits. Signed 16-bit numbers are held as patterns: from 32768 on they are negative, 65535 is -1.
+ * Two of them share a word, one in the lower and one in the upper half. */
+#define RIG_LOWER(word) ((uint16_t)((uint32_t)(word) & 0xFFFFu))
+#define RIG_UPPER(word) ((uint16_t)((uint32_t)(word) >> 16))
+#define RIG_PAIR(lower, upper) ((uint32_t)(uint16_t)(lower) | (uint32_t)(uint16_t)(upper) << 16)
+
+/* A bone's row: which word holds what. Any words are a bone. */
+enum {
+    RIG_BONE_ROTATION = 0,      /* 4 words, a quaternion x, y, z, w */
+    RIG_BONE_TRANSLATION = 4,   /* 3 words */
+    RIG_BONE_SCALE = 7,         /* 3 words */
+    RIG_BONE_NEXT_SIBLING = 10, /* lower half, signed */
+    RIG_BONE_PARENT = 10,       /* upper half, signed; negative: a root */
+    RIG_BONE_FLAGS = 11,        /* lower half */
+    RIG_BONE_INDEX = 11,        /* upper half, signed */
+    RIG_BONE_TAG = 12,          /* lower half; the upper half is stored as 0 and not looked at */
+    RIG_BONE_KEPT = 13,         /* 4 words, column 4 of the bone's local matrix */
+    RIG_BONE_NAME_ADDRESS = 17, /* 2 words, the lower first; 0: the bone has no name */
+    RIG_BONE_NAME_SIZE = 19,    /* 2 words, the lower first: the bytes of the name, its ending zero not counted */
+    RIG_BONE_WORDS = 21
+};
+
+/* A bucket is one word, a link. An entry's row is three words. A link is 0, or one more than the row that it leads to. */
+enum {
+    RIG_ENTRY_TAG = 0,
+    RIG_ENTRY_POSITION = 1,
+    RIG_ENTRY_LINK = 2,
+    RIG_ENTRY_WORDS = 3
+};
+
+/* A matrix is four rows of four words, one behind the other: the diagonal is words 0, 5, 10 (and 15), the translation words 12,
+ * 13, 14, and column 4 words 3, 7, 11, 15. Parents and children are one 16-bit word each. A row of the pool is four words of
+ * 64 bits and a row of the pending list two of 32; both are for the library alone. */
+enum {
+    RIG_MATRIX_WORDS = 16,
+    RIG_POOL_WORDS = 4,
+    RIG_PENDING_WORDS = 2
+};
+
+/* A limit's row: its named fields, then every 4-byte slot of its record, the named fields among them. In writing the named
+ * fields win over their slots. The id is slot 2; least and greatest are from slots 23 and 26 on in a rotation limit, 8 and 12
+ * in a translation limit. */
+enum {
+    RIG_LIMIT_ID = 0,       /* of a rotation limit the lower half, with a second 16-bit number in the upper; else all 32 bits */
+    RIG_LIMIT_LEAST = 1,    /* 3 words */
+    RIG_LIMIT_GREATEST = 4, /* 3 words */
+    RIG_LIMIT_SLOTS = 7,    /* 48 or 16 words */
+    RIG_ROTATION_SLOTS = 48,
+    RIG_ROTATION_WORDS = RIG_LIMIT_SLOTS + RIG_ROTATION_SLOTS, /* 55 */
+    RIG_TRANSLATION_SLOTS = 16,
+    RIG_TRANSLATION_WORDS = RIG_LIMIT_SLOTS + RIG_TRANSLATION_SLOTS /* 23 */
+};
+
+/* ---- how much to lend, in items of the table ---- */
+
+/* For deriving from n bones, and so for writing and checking them. Buckets and entries are not used below two bones. */
+#define RIG_BONES_LENT(n) (RIG_BONE_WORDS * (size_t)(n))
+#define RIG_BUCKETS_LENT(n) ((n) < 2 ? (size_t)0 : rig_num_hash_buckets(n))
+#define RIG_ENTRIES_LENT(n) ((n) < 2 ? (size_t)0 : RIG_ENTRY_WORDS * (size_t)(n))
+#define RIG_MATRICES_LENT(n) (RIG_MATRIX_WORDS * (size_t)(n))
+#define RIG_PARENTS_LENT(n) ((size_t)(n))
+#define RIG_CHILDREN_LENT(n) (8 * ((size_t)(n) + 1))
+#define RIG_PENDING_LENT(n) (RIG_PENDING_WORDS * 4 * ((size_t)(n) + 1))
+
+/* For reading: buckets, bones, matrices and parents by the record's counts, children by the greater of its child and bone counts,
+ * entries by how many the chains reach (in an accepted section RIG_ENTRIES_LENT of its bones). The pool wants a row for each
+ * distinct address that is read: these words are always enough, where the entry table has `entries` rows. */
+#define RIG_POOL_LENT(entries, bones) (RIG_POOL_WORDS * ((size_t)(entries) + 2 * (size_t)(bones) + 7))
+
+/* The bytes of a written section of n bones: `names` is the sum of the names' sizes, one more for each name, and `children` the
+ * number of child entries (by rig_build_indices; at most RIG_CHILDREN_LENT(n)). None has more than RIG_SECTION_MOST. */
+#define RIG_FILLED(bytes) (((size_t)(bytes) + 15) / 16 * 16)
+#define RIG_SECTION_BYTES(n, names, children)                                                                                     \
+    (112 + RIG_FILLED(8 * RIG_BUCKETS_LENT(n)) + 16 * (RIG_ENTRIES_LENT(n) / RIG_ENTRY_WORDS) +                                   \
+     ((n) == 0 ? (size_t)0 : 16 + 80 * (size_t)(n)) + RIG_FILLED(names) + 2 * 64 * (size_t)(n) + RIG_FILLED(2 * (size_t)(n)) +    \
+     RIG_FILLED(2 * (size_t)(children)))
+#define RIG_SECTION_MOST ((size_t)32243232)
+
+/* the bytes of a written section of r rotation and t translation limits */
+#define RIG_JOINTS_BYTES(r, t) (64 + 192 * (size_t)(r) + 64 * (size_t)(t))
+
+/* ---- fields: little-endian numbers in bytes ---- */
+
+/* The number at offset `at`, or 0 where it does not lie wholly in the `s_len` bytes. */
+uint16_t rig_u16_at(const uint8_t *s, size_t s_len, size_t at);
+uint32_t rig_u32_at(const uint8_t *s, size_t s_len, size_t at);
+uint64_t rig_u64_at(const uint8_t *s, size_t s_len, size_t at);
+
+/* Stores the number at offset `at` and gives true; or gives false where it would not lie wholly in the `d_len` bytes, all of
+ * which are then as they were. */
+bool rig_put16(uint8_t *d, size_t d_len, size_t at, uint16_t v);
+bool rig_put32(uint8_t *d, size_t d_len, size_t at, uint32_t v);
+bool rig_put64(uint8_t *d, size_t d_len, size_t at, uint64_t v);
+
+/* ---- deriving: the tables that follow from the first n bones of a table ---- */
+
+/* Each call with a status refuses 2 for n above 65,535, then 1 where `bones` has fewer than n rows or another table is shorter than
+ * the macros above say. After RIG_OK a result table holds its rows, with zeros behind them; after a refusal it is all zero, and
+ * `*count` is 0. */
+
+/* How many buckets n bones have, of two bones on: the first of 11, 29, 59, 107, 191, 331, 563, 953, 1609, 2729, 4621, 7841,
+ * 13297, 22571, 38351, 65167 that is greater than n, else 65521. */
+size_t rig_num_hash_buckets(size_t n);
+
+/* The hash chains. `*count` is the number of buckets, 0 below two bones. Bucket b links to the chain of all positions whose tag
+ * modulo `*count` is b, falling; row p of `entries` is the entry of position p. */
+uint32_t rig_build_bone_tags(const uint32_t *bones, size_t bones_len, size_t n, uint32_t *buckets, size_t buckets_len,
+                             uint32_t *entries, size_t entries_len, size_t *count);
+
+/* The parents list, each bone's parent in position order, and the child list: layers of up to four (index, parent) pairs, the last
+ * pair repeated up to four. `*count` is the number of child entries, eight for each layer. `pending` is a working table, zero after
+ * every call. */
+uint32_t rig_build_indices(const uint32_t *bones, size_t bones_len, size_t n, uint16_t *parents, size_t parents_len,
+                           uint16_t *children, size_t children_len, uint32_t *pending, size_t pending_len, size_t *count);
+
+/* The matrices. Inverse: of the bone with its parents' rotations and translations applied, up to a parent that is no position
+ * below n, for n steps at most; sixteen +0 where the determinant comes out as 0; column 4 is +0. Local: of the bone alone, its
+ * diagonal multiplied by the scale; column 4 is the bone's kept words. Another word that is NaN is 7FC00000 hex. */
+uint32_t rig_build_transformations(const uint32_t *bones, size_t bones_len, size_t n, uint32_t *inverse, size_t inverse_len,
+                                   uint32_t *local, size_t local_len);
+
+/* ---- a skeleton's section ---- */
+
+/* What rig_read puts into `fields`. A part whose pointer is 0 does not stand (of the bones: 0 or 16). */
+enum {
+    RIG_READ_KIND = 0, /* the kind word, as it is stored */
+    RIG_READ_FREE = 1, /* 4 numbers: the words at 28, 80, 84 and 88 of the record */
+    /* the counts that the record stores */
+    RIG_READ_BUCKET_COUNT = 5,
+    RIG_READ_BONE_COUNT = 6,
+    RIG_READ_CHILD_COUNT = 7,
+    /* of each part 1 if it stands, else 0, and behind it how long it is: rows, but words of the two lists of matrices */
+    RIG_READ_BUCKETS = 8,
+    RIG_READ_BUCKETS_LENGTH = 9,
+    RIG_READ_BONES = 10,
+    RIG_READ_BONES_LENGTH = 11,
+    RIG_READ_INVERSE = 12,
+    RIG_READ_INVERSE_LENGTH = 13,
+    RIG_READ_LOCAL = 14,
+    RIG_READ_LOCAL_LENGTH = 15,
+    RIG_READ_PARENTS = 16,
+    RIG_READ_PARENTS_LENGTH = 17,
+    RIG_READ_CHILDREN = 18,
+    RIG_READ_CHILDREN_LENGTH = 19,
+    RIG_READ_FIELDS = 20
+};
+
+/* Reads the skeleton at `root`. RIG_OK: each table holds the rows read, from its first row on, with zeros behind them; bone p is row
+ * p, and its name's place is where the bytes lie in `sys` or `gfx`. RIG_NONE: root 0. Refuses the first that is met in reading
+ * order: 10, 11 for the record's 98 bytes; then buckets with their chains, bones (13 first) with their names, inverse, local,
+ * parents, children; at each address 12 (the last four never), 10, 11; and 1 where a row would go into a full table, the pool among
+ * them: a bone after its name, a bucket after its chain, a list after its bytes. Unless RIG_OK, all tables and `fields` are zero.
+ * `pool` is a working table, zero after every call. */
+uint32_t rig_read(const uint8_t *sys, size_t sys_len, const uint8_t *gfx, size_t gfx_len, uint64_t root, uint32_t *bones,
+                  size_t bones_len, uint32_t *buckets, size_t buckets_len, uint32_t *entries, size_t entries_len,
+                  uint32_t *inverse, size_t inverse_len, uint32_t *local, size_t local_len, uint16_t *parents, size_t parents_len,
+                  uint16_t *children, size_t children_len, uint64_t *pool, size_t pool_len, size_t fields[RIG_READ_FIELDS]);
+
+/* Writes the section of the first n bones at the front of `out`, its skeleton at its start. Their names lie in `sys` and `gfx`, by
+ * the places in their rows; `free` are the record's words at 28, 80, 84 and 88. RIG_OK: `*count` is the number of bytes, a
+ * multiple of 16, and what lies behind them is as it was; the section is accepted by rig_check in tables that hold it, and
+ * rig_read gives the same bones, bit for bit, their names now lying in it. Refuses 2, 1 where `bones` has fewer than n rows, 4, 1
+ * for another table, 3, 5; then `*count` is 0 and `out` as it was. The seven tables between `free` and `out` are working tables,
+ * zero after every call. */
+uint32_t rig_write(const uint32_t *bones, size_t bones_len, size_t n, const uint8_t *sys, size_t sys_len, const uint8_t *gfx,
+                   size_t gfx_len, const uint32_t free[4], uint32_t *buckets, size_t buckets_len, uint32_t *entries,
+                   size_t entries_len, uint32_t *inverse, size_t inverse_len, uint32_t *local, size_t local_len,
+                   uint16_t *parents, size_t parents_len, uint16_t *children, size_t children_len, uint32_t *pending,
+                   size_t pending_len, uint8_t *out, size_t out_len, size_t *count);
+
+/* Looks up a tag, down the chain of the bucket whose number is the tag modulo the bucket count. RIG_OK: `*position` is that of the
+ * first entry with the tag; in a section that rig_check accepts, the greatest position of a bone with it. RIG_NONE: root 0, no
+ * buckets, or no entry with the tag; in an accepted section of two or more bones, no bone has it. Refuses 10, 11 for the record's
+ * 98 bytes, then for the whole bucket array; then of each entry 14 where as many as the stored bone count were visited, 10, 11.
+ * Unless RIG_OK, `*position` is 0. */
+uint32_t rig_lookup(const uint8_t *sys, size_t sys_len, const uint8_t *gfx, size_t gfx_len, uint64_t root, uint16_t tag,
+                    uint32_t *position);
+
+/* Checks the skeleton at `root`. RIG_OK: it reads, and its chains, parents, children and matrices equal, word by word, those
+ * derived from the bones read; `*count` is the number of bones, and the tables from `bones` to `children` are as rig_read leaves
+ * them. RIG_NONE: root 0. Refuses what rig_read refuses, then 1 where a table from `derived_buckets` on is too short for deriving
+ * from the bones read, then 21, 22, 23, 24, 25. Unless RIG_OK, `*count` and all tables are zero. `pool` and the tables from
+ * `derived_buckets` to `pending` are working tables, zero after every call. */
+uint32_t rig_check(const uint8_t *sys, size_t sys_len, const uint8_t *gfx, size_t gfx_len, uint64_t root, uint32_t *bones,
+                   size_t bones_len, uint32_t *buckets, size_t buckets_len, uint32_t *entries, size_t entries_len,
+                   uint32_t *inverse, size_t inverse_len, uint32_t *local, size_t local_len, uint16_t *parents,
+                   size_t parents_len, uint16_t *children, size_t children_len, uint64_t *pool, size_t pool_len,
+                   uint32_t *derived_buckets, size_t derived_buckets_len, uint32_t *derived_entries, size_t derived_entries_len,
+                   uint32_t *derived_inverse, size_t derived_inverse_len, uint32_t *derived_local, size_t derived_local_len,
+                   uint16_t *derived_parents, size_t derived_parents_len, uint16_t *derived_children,
+                   size_t derived_children_len, uint32_t *pending, size_t pending_len, size_t *count);
+
+/* ---- names ---- */
+
+/* The hash of a name's bytes, exactly as they stand: where the game lowers a name's case first, the caller must. */
+uint32_t rig_rage_joaat(const uint8_t *s, size_t s_len);
+
+/* Reads the skeleton at `root` and searches its bones by name. RIG_OK: `*position` is that of the first bone whose name's bytes
+ * hash to `key`; bones without a name are passed over. RIG_NONE: root 0, or no such bone. Refuses what rig_read refuses. Unless
+ * RIG_OK, `*position` is 0. The tables are as rig_read leaves them, also where no bone has the key. */
+uint32_t rig_search(const uint8_t *sys, size_t sys_len, const uint8_t *gfx, size_t gfx_len, uint64_t root, uint32_t key,
+                    uint32_t *bones, size_t bones_len, uint32_t *buckets, size_t buckets_len, uint32_t *entries,
+                    size_t entries_len, uint32_t *inverse, size_t inverse_len, uint32_t *local, size_t local_len,
+                    uint16_t *parents, size_t parents_len, uint16_t *children, size_t children_len, uint64_t *pool,
+                    size_t pool_len, size_t *position);
+
+/* ---- joints ---- */
+
+/* What rig_joints_read puts into `fields`. A list whose pointer is 0 does not stand. */
+enum {
+    RIG_JOINTS_READ_KIND = 0, /* the kind word, as it is stored */
+    /* the counts that the record stores */
+    RIG_JOINTS_READ_ROTATION_COUNT = 1,
+    RIG_JOINTS_READ_TRANSLATION_COUNT = 2,
+    /* of each list 1 if it stands, else 0, and behind it how many limits it has: the rows of its table */
+    RIG_JOINTS_READ_ROTATION = 3,
+    RIG_JOINTS_READ_ROTATION_LENGTH = 4,
+    RIG_JOINTS_READ_TRANSLATION = 5,
+    RIG_JOINTS_READ_TRANSLATION_LENGTH = 6,
+    RIG_JOINTS_READ_FIELDS = 7
+};
+
+/* Reads the joints at `root`. RIG_OK: the tables hold the limits' rows with zeros behind them. RIG_NONE: root 0. Refuses 10, 11 for
+ * the record's 52 bytes, then for the rotation limits 10, 11, and 1 for their table, then the same for the translation limits.
+ * Unless RIG_OK, both tables and `fields` are zero. */
+uint32_t rig_joints_read(const uint8_t *sys, size_t sys_len, const uint8_t *gfx, size_t gfx_len, uint64_t root,
+                         uint32_t *rotation, size_t rotation_len, uint32_t *translation, size_t translation_len,
+                         uint32_t fields[RIG_JOINTS_READ_FIELDS]);
+
+/* Writes the section of the first r rows of `rotation` and t of `translation` at the front of `out`, its record at its start.
+ * RIG_OK: `*count` is RIG_JOINTS_BYTES(r, t), and what lies behind these bytes is as it was. Refuses 6 for r or t above 65,535, 1
+ * where a table has fewer rows, 5; then `*count` is 0 and `out` as it was. */
+uint32_t rig_joints_write(const uint32_t *rotation, size_t rotation_len, size_t r, const uint32_t *translation,
+                          size_t translation_len, size_t t, uint8_t *out, size_t out_len, size_t *count);
+
+/* The 48 slots of a fresh rotation limit. Its named fields are 0: its row is seven zeros and these. */
+void rig_fresh_rotation_limit(uint32_t out[RIG_ROTATION_SLOTS]);
+
+#ifdef __cplusplus
+}
+#endif
+
+#endif
