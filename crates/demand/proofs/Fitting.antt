@@ -10,7 +10,9 @@ use Rattle.format.specs.Field.{whichList, Each}
 use Rattle.format.specs.Rows.{boneWidth, boneOf, bonesOf}
 use Rattle.promises.specs.Meaning.{BoneFits}
 use Rattle.tables.specs.Front.{frontOf}
-use Rattle.demand.specs.Typed.{Bytes8, Words32}
+use Rattle.read_rows.specs.Bytes.{Bytes8}
+use Rattle.read_rows.proofs.Growing.{take-bytes}
+use Rattle.demand.specs.Typed.{Words32}
 
 bone-fits : (t : List ℕ) → Words32 t → BoneFits (boneOf t)
 unfolding boneOf
@@ -34,12 +36,6 @@ pub bones-fit : (n : ℕ) (t : List ℕ) → Words32 t → Each BoneFits (bonesO
 unfolding bonesOf
 bones-fit zero t h = tt
 bones-fit (suc n) t h = (bone-fits t h, bones-fit n (drop boneWidth t) (drop-words boneWidth t h))
-
-take-bytes : (n : ℕ) (s : List ℕ) → Bytes8 s → Bytes8 (take n s)
-take-bytes zero s h i = omega arith
-take-bytes (suc n) [] h i = h i
-take-bytes (suc n) (b ∷ s) h zero = h 0
-take-bytes (suc n) (b ∷ s) h (suc i) = take-bytes n s (λ j. h (suc j)) i
 
 pub front-bytes : (n : ℕ) (s : List ℕ) → Bytes8 s → Bytes8 (frontOf n s)
 unfolding whichList

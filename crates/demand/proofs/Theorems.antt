@@ -43,8 +43,9 @@ use Rattle.checked.specs.declared.Checked.{Checked}
 use Rattle.checked.specs.declared.Checked.the-variants.{Accepted}
 use Rattle.checked.proofs.Answers.{accepted, skeleton-is, rows-counted}
 use Rattle.verify.specs.Checks.{leavesBy, Checks}
-use Rattle.demand.specs.Typed.{Bytes8, Words32}
-use Rattle.demand.specs.Theorems.{Accepting, Bytes, SameBones, WrittenBack, Theorems}
+use Rattle.read_rows.specs.Bytes.{Bytes8, Bytes}
+use Rattle.demand.specs.Typed.{Words32}
+use Rattle.demand.specs.Theorems.{Accepting, SameBones, WrittenBack, Theorems}
 use Rattle.demand.proofs.Fitting.{bones-fit, front-bytes}
 use Rattle.demand.proofs.Answers.{accepted-count, written-is}
 

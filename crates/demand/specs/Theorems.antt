@@ -36,7 +36,8 @@ use Rattle.checked.specs.Steps.{rowsOf}
 use Rattle.checked.specs.declared.Checked.{Checked}
 use Rattle.checked.specs.declared.Checked.the-variants.{Accepted}
 use Rattle.verify.specs.Checks.{Checks}
-use Rattle.demand.specs.Typed.{Bytes8, Words32}
+use Rattle.read_rows.specs.Bytes.{Bytes8, Bytes}
+use Rattle.demand.specs.Typed.{Words32}
 
 -- ---- the words that the statements use
 
@@ -44,10 +45,6 @@ use Rattle.demand.specs.Typed.{Bytes8, Words32}
 pub record Accepting (r : Checked) : Type 0 where
   pub count : ℕ
   pub is : r ≡ Accepted count
-
--- a section of bytes
-abbrev pub Bytes : Section → Type 0
-Bytes sec = Bytes8 (sec .system) × Bytes8 (sec .graphics)
 
 -- the tables lent for a reading hold it, whatever the section reads to
 abbrev pub HoldsReading : Section → ℕ → read.Lent → Type 0

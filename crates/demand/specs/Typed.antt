@@ -4,10 +4,6 @@ use Prim.Native.Nat.{ℕ, _^_, _<_}
 use mathlib.Core.List.{List}
 use lib.ListN.{getD}
 
--- a slice of u8
-abbrev pub Bytes8 : List ℕ → Type 0
-Bytes8 s = (i : ℕ) → getD s i 0 < 2 ^ 8
-
 -- a slice of u32
 abbrev pub Words32 : List ℕ → Type 0
 Words32 t = (i : ℕ) → getD t i 0 < 2 ^ 32

@@ -2,7 +2,8 @@
 // they ask of bytes and words is asked of every argument by its type.
 ghost use Rattle.promises.specs.Meaning.{Fits4};
 ghost use Rattle.write.specs.Placing.{meantFree};
-ghost use Rattle.demand.specs.Typed.{Bytes8, Words32};
+ghost use Rattle.read_rows.specs.Bytes.{Bytes8};
+ghost use Rattle.demand.specs.Typed.{Words32};
 use write::Free;
 
 // A call: at the entry of a function that makes one, the proof is told of the elements of its slices.

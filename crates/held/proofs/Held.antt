@@ -15,12 +15,12 @@ use Rattle.format.specs.Read.{readSkeleton}
 use Rattle.format.specs.Check.{Read, readOf, bonesRead, chainsRead, chainsAlong, listRead}
 use Rattle.read_bones.proofs.Rows.{length-words-of}
 use Rattle.read.specs.Lent.{Lent, laidAll}
-use Rattle.read_rows.proofs.Growing.{Bytes}
+use Rattle.read_rows.specs.Bytes.{Bytes}
 use Rattle.read_rows.proofs.Bones.{bones-read}
 use Rattle.promises.proofs.Frames.{counted}
 use Rattle.agree.specs.Chained.{entriesIn}
 use Rattle.agree.proofs.Held.{chains-held}
-use Rattle.held.specs.ReadIn.{BytesFit, readIn}
+use Rattle.held.specs.ReadIn.{readIn}
 use Rattle.held.proofs.Standing.{Front, Standing, standing}
 
 -- ---- rows of one table each
@@ -62,12 +62,9 @@ read-same e₁ e₂ e₃ e₄ e₅ e₆ = λ i.
     record { bones = e₁ i; chains = e₂ i; parents = e₃ i; children = e₄ i; inverse = e₅ i; local = e₆ i }
 
 module _
-    (sec : Section) (small : BytesFit sec) (room : Room) (root : ℕ) (s : SkeletonRow) (u : Tables)
+    (sec : Section) (bytes : Bytes sec) (room : Room) (root : ℕ) (s : SkeletonRow) (u : Tables)
     (reads : readSkeleton sec room root noRows ≡ done (some s, u))
   where
-    bytes : Bytes sec
-    bytes = record { system = small .0; graphics = small .1 }
-
     stands : Standing s u
     stands = standing sec bytes room root s u reads
 

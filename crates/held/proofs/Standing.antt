@@ -27,7 +27,8 @@ use Rattle.read_lists.proofs.Standing.{lists-stand-none}
 use Rattle.read_lists.proofs.Frames.{list-framed}
 use Rattle.read_lists.proofs.Others.{bucket-array-spared, bones-at-spared, columns-spared}
 use Rattle.read.proofs.Firsts.{list-first}
-use Rattle.read_rows.proofs.Growing.{done-is, Bytes, part-bytes, field-fits}
+use Rattle.read_rows.specs.Bytes.{Bytes}
+use Rattle.read_rows.proofs.Growing.{done-is, part-bytes, field-fits}
 
 -- what stands are the first rows
 abbrev pub Front : Option Rows → ℕ → Type 0

@@ -1,15 +1,10 @@
 -- What was read, as the lent tables have it (document 01, "Lookup and check"). Definitions only.
-use Prim.Native.Nat.{ℕ, _<_}
+use Prim.Native.Nat.{ℕ}
 use mathlib.Core.List.{List}
-use lib.ListN.{getD, take}
-use Rattle.format.specs.Section.{Section}
+use lib.ListN.{take}
 use Rattle.format.specs.Rows.{bonesOf}
 use Rattle.format.specs.Check.{Read, chainsAlong}
 use Rattle.agree.specs.Chained.{entriesIn}
-
--- a section of bytes, as lent slices of them are
-abbrev pub BytesFit : Section → Type 0
-BytesFit sec = ((i : ℕ) → getD (sec .system) i 0 < 256) × ((i : ℕ) → getD (sec .graphics) i 0 < 256)
 
 -- The first n bones of their table, the chains of the first nb buckets, and the first words of each list. What is absent counts 0.
 abbrev pub readIn :

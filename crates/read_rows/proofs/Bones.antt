@@ -33,7 +33,7 @@ use Rattle.read_bones.proofs.Chains.{unread-none, kept-unread, chains-beside}
 use Rattle.read_lists.proofs.Frames.{list-framed}
 use Rattle.read_bones.proofs.Keeping.{length-alter}
 use Rattle.read_rows.proofs.Growing.{done-is, Kept, pool-kept, bones-grown}
-pub use Rattle.read_rows.proofs.Growing.{Bytes}
+use Rattle.read_rows.specs.Bytes.{Bytes}
 
 -- ---- the block
 

@@ -30,6 +30,7 @@ use Rattle.bones.proofs.ReadBack.{AllFit, fit-none, fit-more}
 use Rattle.read_bones.specs.Lent.{Passed, Unread, InOrder}
 use Rattle.read_bones.proofs.Pools.{found-again, unread-later, unread-enter}
 use Rattle.read_bones.proofs.Stretches.{up-from-append}
+use Rattle.read_rows.specs.Bytes.{Bytes8, Bytes}
 
 -- a step that is done
 pub done-is : {A : Type 0} {a b : A} → _≡_ {A = Res A} (done a) (done b) → a ≡ b
@@ -37,39 +38,34 @@ done-is e = cc
 
 -- ---- the bytes of a section
 
--- each is below 256, as it is in lent slices
-pub record Bytes (sec : Section) : Type 0 where
-  pub system : (i : ℕ) → getD (sec .system) i 0 < 256
-  pub graphics : (i : ℕ) → getD (sec .graphics) i 0 < 256
-
-take-lt : (n : ℕ) (l : List ℕ) → ((i : ℕ) → getD l i 0 < 256) → (i : ℕ) → getD (take n l) i 0 < 256
-take-lt zero l h i = omega arith
-take-lt (suc n) [] h i = omega arith
-take-lt (suc n) (x ∷ l) h zero = h 0
-take-lt (suc n) (x ∷ l) h (suc i) = take-lt n l (λ j. h (suc j)) i
+pub take-bytes : (n : ℕ) (l : List ℕ) → Bytes8 l → Bytes8 (take n l)
+take-bytes zero l h i = omega arith
+take-bytes (suc n) [] h i = omega arith
+take-bytes (suc n) (x ∷ l) h zero = h 0
+take-bytes (suc n) (x ∷ l) h (suc i) = take-bytes n l (λ j. h (suc j)) i
 
 module _ (sec : Section) (bytes : Bytes sec) where
-  half-bytes : (va : ℕ) (p : Spot) → spot sec va ≡ done p → (i : ℕ) → getD (p .half) i 0 < 256
+  half-bytes : (va : ℕ) (p : Spot) → spot sec va ≡ done p → Bytes8 (p .half)
   unfolding spot
   half-bytes va p e i = by (eqb (va / window) 5) (eqb (va / window) 6) e
     where
       by : (x y : Bool) → inHalf x y sec (va % window) ≡ done p → getD (p .half) i 0 < 256
       by true y d =
           let q : record { half = sec .system; offset = va % window } ≡ p = cc in
-          subst (λ (s : Spot). getD (s .half) i 0 < 256) q (bytes .system i)
+          subst (λ (s : Spot). getD (s .half) i 0 < 256) q (bytes .0 i)
       by false true d =
           let q : record { half = sec .graphics; offset = va % window } ≡ p = cc in
-          subst (λ (s : Spot). getD (s .half) i 0 < 256) q (bytes .graphics i)
+          subst (λ (s : Spot). getD (s .half) i 0 < 256) q (bytes .1 i)
       by false false d = let z : _≡_ {A = ℕ} 0 1 = cc in absurd (omega arith)
 
-  pub part-bytes : (va n : ℕ) (b : List ℕ) → part sec va n ≡ done b → (i : ℕ) → getD b i 0 < 256
+  pub part-bytes : (va n : ℕ) (b : List ℕ) → part sec va n ≡ done b → Bytes8 b
   unfolding part
   part-bytes va n b e i =
       gone (spot sec va) _ b e λ p q e₁.
       gone (need 11 (leb (p .offset + n) (length (p .half)))) _ b e₁ λ u r e₂.
       let s : take n (drop (p .offset) (p .half)) ≡ b = cc in
       subst (λ (l : List ℕ). getD l i 0 < 256) s
-      (take-lt n (drop (p .offset) (p .half)) (λ j. rw getD-drop (half-bytes va p q (p .offset + j))) i)
+      (take-bytes n (drop (p .offset) (p .half)) (λ j. rw getD-drop (half-bytes va p q (p .offset + j))) i)
 
 -- two bytes of them are a number of 16 bits
 pub field-fits : (b : List ℕ) (at : ℕ) → ((i : ℕ) → getD b i 0 < 256) → field 2 b at < 65536

@@ -29,7 +29,8 @@ use Rattle.read.specs.declared.Part.the-variants.{Absent, Of}
 use Rattle.read.specs.declared.Skeleton.{Skeleton}
 use Rattle.read.specs.declared.SkeletonRead.{SkeletonRead}
 use Rattle.read.specs.declared.SkeletonRead.the-variants as R
-use Rattle.read_rows.proofs.Bones.{Bytes, bones-read}
+use Rattle.read_rows.specs.Bytes.{Bytes}
+use Rattle.read_rows.proofs.Bones.{bones-read}
 use Rattle.search.specs.Searched.{searchedOf, partRows, firstIn}
 use Rattle.search.specs.declared.Searched.the-variants.{Found, Nothing, Refused}
 

@@ -16,7 +16,8 @@ use Rattle.bones.proofs.Rows.{length-bones-of}
 use Rattle.promises.proofs.Frames.{counted}
 use Rattle.stages.specs.Agreement.{chainsAgree, indicesAgree, matricesAgree, chainsStage, indicesStage, matricesStage}
 use Rattle.stages.proofs.Verdict.{verdict-stages, room-tags, room-indices, room-matrices}
-use Rattle.held.specs.ReadIn.{BytesFit, readIn}
+use Rattle.read_rows.specs.Bytes.{Bytes}
+use Rattle.held.specs.ReadIn.{readIn}
 use Rattle.held.proofs.Held.{read-few, read-rows, read-held}
 use Rattle.read.specs.Lent.{Lent, roomOf, clearedAll}
 use Rattle.read.specs.Reads.{meantSkeleton, meantRead, answerOf, leaves, Reads}
@@ -95,7 +96,7 @@ module _ (k : Counts) (t : Lent) (x : write.Tables) where
 
 -- ---- the check as its stages
 
-module _ (sec : Section) (small : BytesFit sec) (root : ℕ) (t₀ t₁ : Lent) (x : write.Tables) where
+module _ (sec : Section) (bytes : Bytes sec) (root : ℕ) (t₀ t₁ : Lent) (x : write.Tables) where
   -- of a reading that gave a skeleton
   read-staged :
       (y : Skeleton) (u : Tables) → readSkeleton sec (roomOf t₀) root noRows ≡ done (some (meantSkeleton y), u) →
@@ -105,9 +106,9 @@ module _ (sec : Section) (small : BytesFit sec) (root : ℕ) (t₀ t₁ : Lent) 
   unfolding check read checkFrom
   read-staged y u e l =
       let s = meantSkeleton y in
-      let few = read-few sec small (roomOf t₀) root s u e in
-      let rows = read-rows sec small (roomOf t₀) root s u e (length (t₀ .bones)) (ap (λ (t : Lent). t .bones) l) in
-      let held = read-held sec small (roomOf t₀) root s u e t₀ t₁ (cleared (length (t₀ .pool))) l in
+      let few = read-few sec bytes (roomOf t₀) root s u e in
+      let rows = read-rows sec bytes (roomOf t₀) root s u e (length (t₀ .bones)) (ap (λ (t : Lent). t .bones) l) in
+      let held = read-held sec bytes (roomOf t₀) root s u e t₀ t₁ (cleared (length (t₀ .pool))) l in
       let counts : readIn (counted (s .bones)) (t₁ .bones) (counted (s .buckets)) (t₁ .buckets) (t₁ .entries) (counted (s .inverse))
       (t₁ .inverse) (counted (s .local)) (t₁ .local) (counted (s .parents)) (t₁ .parents) (counted (s .children)) (t₁ .children)
       ≡ readIn (rowsOf (y .bones)) (t₁ .bones) (rowsOf (y .buckets)) (t₁ .buckets) (t₁ .entries) (rowsOf (y .inverse))
@@ -159,7 +160,7 @@ kept-left (Refused y) g t₀ t₁ s l = same-clear s
 -- ---- the whole call
 
 module _
-    (sec : Section) (small : BytesFit sec) (root : ℕ) (t₀ t₁ t : Lent) (x₀ x : write.Tables) {r : SkeletonRead}
+    (sec : Section) (bytes : Bytes sec) (root : ℕ) (t₀ t₁ t : Lent) (x₀ x : write.Tables) {r : SkeletonRead}
     (m : Reads (readSkeleton sec (roomOf t₀) root noRows) r t₀ t₁) (s : Sizes t₁ t₀) {k : Counts} (ek : k ≡ countsOf r)
     (b c i v y : Checked)
   where
@@ -177,7 +178,7 @@ module _
         ∙ ap (λ (z : Res (Option ℕ)). behind z (indicesTest k t₁ x₀))
         (ec ∙ ap (λ (z : Res (Option ℕ)). behind z (chainsTest k t₁ x₀)) eb))
         ∙ ap (λ (z : Counts). staged z t₁ x₀ (begun (meantRead r) (z .bones) (derives (roomIn x₀) (z .bones)))) ek
-        ∙ sym (check-staged sec small root t₀ t₁ x₀ m) in
+        ∙ sym (check-staged sec bytes root t₀ t₁ x₀ m) in
         record {
           answer = ap checkedOf ey ∙ a;
           tables = et ∙ kept-left v (readSkeleton sec (roomOf t₀) root noRows) t₀ t₁ s (m .tables)

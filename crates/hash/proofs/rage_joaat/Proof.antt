@@ -48,7 +48,7 @@ abbrev μ-loop : tie.MeasureT-loop
 μ-loop s hash₀ i₀ hash i = length s - i
 
 loop-holds : tie.Need-loop-holds Inv-loop μ-loop
-loop-holds c = search needs
+loop-holds c = (search needs, refl)
 
 shared-slice-read-wrapping-add-u32 : tie.Need-shared-slice-read-wrapping-add-u32 Inv-loop μ-loop
 shared-slice-read-wrapping-add-u32 c = search needs

@@ -1,7 +1,6 @@
 -- `search::search` meets its contract: reading, then the first of its bones. Assumes nothing.
 use mathlib.Core.Path.{_∙_}
 use borrow.Author.Needs.{needs}
-use Rattle.read_rows.proofs.Bones.{Bytes}
 use Rattle.search.proofs.Searching.{search-first}
 use Rattle.search.proofs.search.Statement.{statement}
 use Rattle.search.proofs.search.Tie as tie
@@ -47,11 +46,9 @@ returns c =
     let m = reading c .read .ensures in
     let first = reading c .before .before .before .before .before .before .before .before in
     let halves = first .before .before .before .before .before .before .before .before .before in
-    let bytes : Bytes _ = record {
-      system = λ i. halves .before .shared-slice-known .given i .fits;
-      graphics = λ i. halves .shared-slice-known2 .given i .fits;
-    } in
-    (c .first-in .ensures ∙ search-first _ _ _ _ _ m bytes, m .tables)
+    let found = search-first _ _ _ _ _ m
+    (λ i. halves .before .shared-slice-known .given i .fits, λ i. halves .shared-slice-known2 .given i .fits) in
+    (c .first-in .ensures ∙ found, m .tables)
 
 pub search-spec : {M : Type 1} → statement M
 search-spec =

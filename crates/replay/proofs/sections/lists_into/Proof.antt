@@ -82,16 +82,24 @@ all-requires : tie.Need-all-requires
 all-requires c κs = tt
 
 same-length : tie.Need-same-length
-same-length c = c .before .before .before .before .before .before .before .before .before .before .before .before .before .before .before .before .before .before .before .before .before .before .before .before .before .before .before .read .kept .1 .1 .1 .0
+same-length c =
+    let k = c .before .before .before .before .before .before .before .before .before .before .before .before .before in
+    k .before .before .before .before .before .before .before .before .before .before .before .before .before .before .read .kept .1 .1 .1 .0
 
 same-length-2 : tie.Need-same-length-2
-same-length-2 c = c .before .before .before .before .before .before .before .before .before .before .before .before .before .before .before .before .before .before .before .before .before .before .before .before .before .before .before .read .kept .1 .1 .1 .1 .0
+same-length-2 c =
+    let k = c .before .before .before .before .before .before .before .before .before .before .before .before .before in
+    k .before .before .before .before .before .before .before .before .before .before .before .before .before .before .read .kept .1 .1 .1 .1 .0
 
 same-length-3 : tie.Need-same-length-3
-same-length-3 c = c .before .before .before .before .before .before .before .before .before .before .before .before .before .before .before .before .before .before .before .before .before .before .before .before .before .before .before .read .kept .1 .1 .1 .1 .1 .0
+same-length-3 c =
+    let k = c .before .before .before .before .before .before .before .before .before .before .before .before .before in
+    k .before .before .before .before .before .before .before .before .before .before .before .before .before .before .read .kept .1 .1 .1 .1 .1 .0
 
 same-length-4 : tie.Need-same-length-4
-same-length-4 c = c .before .before .before .before .before .before .before .before .before .before .before .before .before .before .before .before .before .before .before .before .before .before .before .before .before .before .before .read .kept .1 .1 .1 .1 .1 .1 .1 .1 .1 .1 .0
+same-length-4 c =
+    let k = c .before .before .before .before .before .before .before .before .before .before .before .before .before in
+    k .before .before .before .before .before .before .before .before .before .before .before .before .before .before .read .kept .1 .1 .1 .1 .1 .1 .1 .1 .1 .1 .0
 
 returns : tie.Need-returns
 returns c = tt

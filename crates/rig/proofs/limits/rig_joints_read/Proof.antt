@@ -45,8 +45,9 @@ same-length-2 c = search needs
 
 returns : tie.Need-returns
 returns c =
-    let k = c .before .before .before .before .before .before .before .read .ensures in
-    let a = nothing-read (c .before .before .before .before .before .before .before .read .last .1 .1 .1 .0) (c .before .before .before .before .before .before .before .read .last .1 .1 .1 .1 .0) (c .before .enum-told .given .1) (k .0) in
+    let r = c .before .before .before .before .before .before .before .read in
+    let k = r .ensures in
+    let a = nothing-read (r .last .1 .1 .1 .0) (r .last .1 .1 .1 .1 .0) (c .before .enum-told .given .1) (k .0) in
     (a .0, (a .1, k .1))
 
 same-length-3 : tie.Need-same-length-3
@@ -57,8 +58,9 @@ same-length-4 c = search needs
 
 returns-2 : tie.Need-returns-2
 returns-2 c =
-    let k = c .before .before .before .before .before .before .before .before .before .before .before .before .before .before .before .before .read .ensures in
-    let a = joints-read (c .before .before .before .before .before .before .before .before .before .before .before .before .before .before .before .before .read .last .1 .1 .1 .0) (c .before .before .before .before .before .before .before .before .before .before .before .before .before .before .before .before .read .last .1 .1 .1 .1 .0) (c .before .before .before .before .before .before .before .before .before .before .j .given .1) (k .0)
+    let r = c .before .before .before .before .before .before .before .before .before .before .before .before .before .before .before .before .read in
+    let k = r .ensures in
+    let a = joints-read (r .last .1 .1 .1 .0) (r .last .1 .1 .1 .1 .0) (c .before .before .before .before .before .before .before .before .before .before .j .given .1) (k .0)
     (c .before .before .before .before .number-if .ensures) (c .before .before .before .count-if .ensures)
     (c .before .before .number-if2 .ensures) (c .before .count-if2 .ensures) in
     (a .0, (a .1, k .1))
@@ -71,8 +73,9 @@ same-length-6 c = search needs
 
 returns-3 : tie.Need-returns-3
 returns-3 c =
-    let k = c .before .before .before .before .before .before .before .before .before .read .ensures in
-    let a = refused-read (c .before .before .before .before .before .before .before .before .before .read .last .1 .1 .1 .0) (c .before .before .before .before .before .before .before .before .before .read .last .1 .1 .1 .1 .0) (c .before .before .before .r2 .given .1) (k .0) (c .code .ensures) in
+    let r = c .before .before .before .before .before .before .before .before .before .read in
+    let k = r .ensures in
+    let a = refused-read (r .last .1 .1 .1 .0) (r .last .1 .1 .1 .1 .0) (c .before .before .before .r2 .given .1) (k .0) (c .code .ensures) in
     (a .0, (a .1, k .1))
 
 pub rig-joints-read-spec : {M : Type 1} → statement M
