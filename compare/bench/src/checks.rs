@@ -23,12 +23,13 @@ pub fn rigs(table: &Table, library: &dyn Checks) {
             timed(|| derive_read(prepared.read(SYSTEM_BASE).0))
         };
         let row = Row { call: "check", input: &input, units: n, unit: "a bone" };
-        table.both(&row, || check(library, &system, &mut read, &mut derived), rust);
+        table.both(&row, || check_once(library, &system, &mut read, &mut derived), rust);
         lookups(table, library, &input, &system, &bones);
     }
 }
 
-fn check(library: &dyn Checks, system: &[u8], read: &mut ReadLent, derived: &mut Lent) -> Duration {
+/// The time of one check.
+pub fn check_once(library: &dyn Checks, system: &[u8], read: &mut ReadLent, derived: &mut Lent) -> Duration {
     let Lent { buckets, entries, inverse, local, parents, children, pending, n, .. } = derived;
     let tables = WriteTables { buckets, entries, inverse, local, parents, children, pending };
     let (section, mut count) = (Halves { system, graphics: &[] }, 0);

@@ -1,9 +1,11 @@
 //! Times our library and the published Rust on the same inputs, in one run, and prints a table in Markdown. Words name the
-//! groups to be timed: deriving, skeletons, checks, joints, hash; none is all.
+//! groups to be timed: deriving, skeletons, checks, joints, hash; none is all. `profile` makes one call of ours alone.
 
 mod checks;
 mod derive;
 mod lent;
+mod parts;
+mod profile;
 mod rigs;
 mod skeletons;
 mod small;
@@ -19,9 +21,10 @@ the call, and what drops them is not timed. \"Of the least\" is the ratio of the
 
 const NOTES: &str = "
 Sections have a name of 4 to 20 letters for each bone. The longest chain that can be written has 8,192 bones; the others are
-nobody's children. The Rust writes by `from_bones`, our placing and `Block::write`. \"Deriving aside\": ours is the time of writing
-less that of the three derivations, called in turn with it on the same tables; the Rust's is `Block::write` of blocks that were
-derived and placed beforehand.
+nobody's children. The Rust writes by `from_bones`, our placing and `Block::write`. Two rows leave deriving aside: ours is the time
+of writing less that of the three derivations, called in turn with it on the same tables. \"Deriving aside\" is the same job on both
+sides: the Rust places blocks that were derived beforehand, and writes them. \"Against placed blocks\": the Rust's is `Block::write`
+alone; ours still tests and measures the names and finds the places.
 
 A check is timed with a pool half full, against the Rust's reading and its three derivations from the bones read, without any
 comparison. A lookup finds the tag of a bone in the section's bytes; the Rust's side is `get` of a `HashMap<u16, u32>` made before.
@@ -31,9 +34,13 @@ bones. Parents are signed: that chain is one of 32,769 bones, and then roots.
 ";
 
 fn main() -> ExitCode {
+    let words: Vec<String> = std::env::args().skip(1).collect();
     let load = || std::fs::read_to_string("/proc/loadavg").unwrap_or_else(|_| "unknown\n".into());
     print!("load before: {}", load());
-    let result = run();
+    let result = match words.split_first() {
+        Some((word, rest)) if word == "profile" => profile::run(rest),
+        _ => run(&words),
+    };
     print!("\nload after: {}", load());
     match result {
         Ok(()) => ExitCode::SUCCESS,
@@ -44,12 +51,11 @@ fn main() -> ExitCode {
     }
 }
 
-fn run() -> Result<(), String> {
+fn run(words: &[String]) -> Result<(), String> {
     if !link::LINKED {
         return Err("built without librig.a; start with compare/run --bench".into());
     }
     println!("{HEAD}");
-    let words: Vec<String> = std::env::args().skip(1).collect();
     let wanted = |group: &str| words.is_empty() || words.iter().any(|word| word == group);
     let table = Table::begin();
     if let Some(library) = link::derive().filter(|_| wanted("deriving")) {
@@ -68,6 +74,7 @@ fn run() -> Result<(), String> {
     if let Some(library) = link::hash().filter(|_| wanted("hash")) {
         small::hash(&table, library);
     }
+    table.end();
     print!("{NOTES}");
     let groups = [
         ("deriving", link::derive().is_some()),

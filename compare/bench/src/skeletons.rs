@@ -21,12 +21,13 @@ pub const RIGS: [(&str, Drawn, usize); 7] = [
 ];
 
 /// The longest chain that can be written, and bones that are nobody's children.
-fn longest(rng: &mut Rng, n: usize) -> Vec<Bone> {
+pub fn longest(rng: &mut Rng, n: usize) -> Vec<Bone> {
     broad(rng, n, LONGEST_WRITTEN)
 }
 
-/// Reading, with a pool of twice the rows that it wants and with one of just these; writing, and writing without deriving, but
-/// for chains, where the walks of deriving take nearly all of the time.
+/// Reading, with a pool of twice the rows that it wants and with one of just these; writing, and writing without deriving, against
+/// the Rust's placing and writing of derived blocks and against its writing of placed ones. Not so for chains, where the walks of
+/// deriving take nearly all of the time.
 pub fn rigs(table: &Table, library: &dyn Skeletons, derive: &dyn Derive) {
     for (shape, drawn, n) in RIGS {
         let bones = named(drawn, n);
@@ -49,8 +50,11 @@ pub fn rigs(table: &Table, library: &dyn Skeletons, derive: &dyn Derive) {
         table.both(&row("write"), || lent.write(library), rust);
         assert_eq!(lent.out, section, "the two sections of {input}");
         if shape != "chain" {
-            let placed = PreparedRig::new(&bones).derived();
-            table.rest(&row("write, deriving aside"), || (lent.write(library), lent.derive(derive)), || timed(|| placed.write()));
+            let mut derived = PreparedRig::new(&bones).derived();
+            let ours = |lent: &mut WriteLent| (lent.write(library), lent.derive(derive));
+            table.rest(&row("write, deriving aside"), || ours(&mut lent), || timed(|| derived.write()));
+            let placed = derived.placed();
+            table.rest(&row("write, against placed blocks"), || ours(&mut lent), || timed(|| placed.write()));
         }
     }
 }
@@ -81,7 +85,7 @@ impl ReadLent {
         ReadTables { bones, buckets, entries, inverse, local, parents, children, pool: &mut self.pool }
     }
 
-    fn read(&mut self, library: &dyn Skeletons, system: &[u8]) -> Duration {
+    pub fn read(&mut self, library: &dyn Skeletons, system: &[u8]) -> Duration {
         let tables = self.tables();
         let (section, mut fields) = (Halves { system, graphics: &[] }, [0; 20]);
         timed(|| assert_eq!(library.read(section, SYSTEM_BASE, tables, &mut fields), DONE))
@@ -89,18 +93,18 @@ impl ReadLent {
 }
 
 /// Our tables and the buffer for writing bones, exactly as long as they must be.
-struct WriteLent {
+pub struct WriteLent {
     tables: Lent,
     names: Vec<u8>,
     out: Vec<u8>,
 }
 
 impl WriteLent {
-    fn new(bones: &[Bone], length: usize) -> Self {
+    pub fn new(bones: &[Bone], length: usize) -> Self {
         WriteLent { tables: Lent::new(bones), names: names::packed(bones).0, out: vec![1; length] }
     }
 
-    fn write(&mut self, library: &dyn Skeletons) -> Duration {
+    pub fn write(&mut self, library: &dyn Skeletons) -> Duration {
         let Lent { n, bones, buckets, entries, parents, children, pending, inverse, local } = &mut self.tables;
         let tables = WriteTables { buckets, entries, inverse, local, parents, children, pending };
         let names = Halves { system: &self.names, graphics: &[] };

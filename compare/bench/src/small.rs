@@ -1,21 +1,21 @@
 //! Joints and the hash.
 
+use crate::rigs::{thousands, COUNTS, SEED};
 use crate::timing::{timed, Row, Table};
 use cases::limits::{rotation_limit, translation_limit};
 use cases::{rows, Rng};
 use link::{Hash, Joints, DONE};
 use oracle::{joints_write, rage_joaat, PreparedBlocks, PreparedSection, RotationLimit, TranslationLimit, SYSTEM_BASE};
 
-const SEED: u64 = 1;
-
-/// Reading and writing of 100 limits of each kind.
+/// Reading and writing of limits of each kind.
 pub fn joints(table: &Table, library: &dyn Joints) {
-    const LIMITS: usize = 100;
     let mut rng = Rng::new(SEED);
-    let rotations: Vec<RotationLimit> = (0..LIMITS).map(|_| rotation_limit(&mut rng)).collect();
-    let translations: Vec<TranslationLimit> = (0..LIMITS).map(|_| translation_limit(&mut rng)).collect();
-    one_kind(table, library, "100 rotation limits", &rotations, &[]);
-    one_kind(table, library, "100 translation limits", &[], &translations);
+    for n in COUNTS {
+        let rotations: Vec<RotationLimit> = (0..n).map(|_| rotation_limit(&mut rng)).collect();
+        let translations: Vec<TranslationLimit> = (0..n).map(|_| translation_limit(&mut rng)).collect();
+        one_kind(table, library, &format!("{} rotation limits", thousands(n)), &rotations, &[]);
+        one_kind(table, library, &format!("{} translation limits", thousands(n)), &[], &translations);
+    }
 }
 
 fn one_kind(table: &Table, library: &dyn Joints, input: &str, rotations: &[RotationLimit], translations: &[TranslationLimit]) {

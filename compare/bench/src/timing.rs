@@ -1,5 +1,6 @@
 //! Medians of repeated calls, printed as rows of a table.
 
+use std::cell::RefCell;
 use std::hint::black_box;
 use std::time::{Duration, Instant};
 
@@ -28,14 +29,29 @@ const MOST: usize = 1_001;
 /// A pair of calls that takes longer is made once.
 const SLOW: Duration = Duration::from_secs(3);
 
-pub struct Table(());
+/// The most that ours / Rust may be: the calls whose names begin so, from so many units on.
+const GOALS: [(&str, usize, f64); 5] =
+    [("read", 0, 0.33), ("write", 0, 0.33), ("tags", 0, 0.25), ("indices", 65_535, 0.005), ("matrices", 0, 0.9)];
+
+fn goal(row: &Row) -> Option<f64> {
+    GOALS.iter().find(|(call, least, _)| row.call.starts_with(call) && row.units >= *least).map(|&(.., most)| most)
+}
+
+/// The table printed so far; it keeps the rows that are above their goals.
+pub struct Table(RefCell<Vec<String>>);
 
 impl Table {
     /// Prints the head.
     pub fn begin() -> Table {
-        println!("| call | input | ns for | ours | Rust | ours / Rust | of the least | calls |");
-        println!("|---|---|---|---:|---:|---:|---:|---:|");
-        Table(())
+        println!("| call | input | ns for | ours | Rust | ours / Rust | of the least | goal | calls |");
+        println!("|---|---|---|---:|---:|---:|---:|---:|---:|");
+        Table(RefCell::default())
+    }
+
+    /// Prints the rows that are above their goals.
+    pub fn end(self) {
+        let above = self.0.into_inner();
+        println!("\nAbove the goal: {}.", if above.is_empty() { "none".into() } else { above.join("; ") });
     }
 
     /// Times both sides and prints their row; each closure gives the time of one call.
@@ -43,8 +59,8 @@ impl Table {
         let times = repeated(|| (ours(), rust()), |&(a, b)| a + b);
         let ours = sorted(times.iter().map(|t| t.0));
         let rust = sorted(times.iter().map(|t| t.1));
-        let ratios = [ratio(median(&ours), median(&rust)), ratio(ours[0], rust[0])];
-        self.print(row, median(&ours), &format!("{:.1}", median(&rust) / row.units as f64), ratios, times.len());
+        let ratios = [median(&ours) / median(&rust), ours[0] / rust[0]];
+        self.print(row, median(&ours), Some((median(&rust), ratios)), times.len());
     }
 
     /// As `both`, where ours gives two times, of a call and of what it makes that the Rust's call does not: the row is of the
@@ -54,20 +70,33 @@ impl Table {
         let (whole, aside) = (sorted(times.iter().map(|t| t.0 .0)), sorted(times.iter().map(|t| t.0 .1)));
         let rust = sorted(times.iter().map(|t| t.1));
         let [ours, least] = [median(&whole) - median(&aside), whole[0] - aside[0]];
-        let ratios = [ratio(ours, median(&rust)), ratio(least, rust[0])];
-        self.print(row, ours, &format!("{:.1}", median(&rust) / row.units as f64), ratios, times.len());
+        let ratios = [ours / median(&rust), least / rust[0]];
+        self.print(row, ours, Some((median(&rust), ratios)), times.len());
     }
 
     /// Times our side alone and prints its row; gives the median of one call.
     pub fn alone(&self, row: &Row, ours: impl FnMut() -> Duration) -> Duration {
         let times = sorted(repeated(ours, |&t| t).into_iter());
-        self.print(row, median(&times), "–", ["–".into(), "–".into()], times.len());
+        self.print(row, median(&times), None, times.len());
         Duration::from_nanos(median(&times) as u64)
     }
 
-    fn print(&self, row: &Row, ours: f64, rust: &str, [ratio, of_the_least]: [String; 2], calls: usize) {
-        let ours = ours / row.units as f64;
-        println!("| {} | {} | {} | {ours:.1} | {rust} | {ratio} | {of_the_least} | {calls} |", row.call, row.input, row.unit);
+    /// The Rust's time, with the ratio and that of the least times, where it was called.
+    fn print(&self, row: &Row, ours: f64, rust: Option<(f64, [f64; 2])>, calls: usize) {
+        let Row { call, input, units, unit } = row;
+        let nanoseconds = |time: f64| format!("{:.1}", time / *units as f64);
+        let none = || "–".to_string();
+        let [time, ratio, least] = match rust {
+            Some((time, [ratio, least])) => [nanoseconds(time), shown(ratio), shown(least)],
+            None => [none(), none(), none()],
+        };
+        let goal = goal(row).filter(|_| rust.is_some());
+        let met = goal.zip(rust).is_none_or(|(goal, (_, [ratio, _]))| ratio <= goal);
+        if !met {
+            self.0.borrow_mut().push(format!("{call}, {input} ({ratio})"));
+        }
+        let goal = goal.map_or_else(none, |goal| if met { format!("{goal}") } else { format!("{goal}, above") });
+        println!("| {call} | {input} | {unit} | {} | {time} | {ratio} | {least} | {goal} | {calls} |", nanoseconds(ours));
     }
 }
 
@@ -92,7 +121,7 @@ fn median(sorted: &[f64]) -> f64 {
     sorted[sorted.len() / 2]
 }
 
-fn ratio(a: f64, b: f64) -> String {
-    let digits = if a < b / 10.0 { 4 } else { 2 };
-    format!("{:.digits$}", a / b)
+fn shown(ratio: f64) -> String {
+    let digits = if ratio < 0.1 { 4 } else { 2 };
+    format!("{ratio:.digits$}")
 }

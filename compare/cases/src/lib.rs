@@ -12,6 +12,7 @@ pub mod records;
 pub mod rigs;
 pub mod rng;
 pub mod rows;
+pub mod rows_changed;
 pub mod scattered;
 pub mod section;
 pub mod tables;
@@ -20,6 +21,6 @@ pub mod units;
 pub mod words;
 
 pub use hand::Hand;
-pub use random::{damaged, good, Case};
+pub use random::{damage, damaged, good, good_of, Case};
 pub use rng::Rng;
 pub use section::Section;

@@ -17,26 +17,37 @@ pub struct Case {
 /// A good section: written by 01's layout or scattered by hand, with some graphics bytes beside it.
 pub fn good(rng: &mut Rng) -> (Vec<Bone>, Section) {
     let bones = rig(rng);
+    let section = good_of(rng, &bones);
+    (bones, section)
+}
+
+/// A good section of these bones.
+pub fn good_of(rng: &mut Rng, bones: &[Bone]) -> Section {
     let free = std::array::from_fn(|_| rng.next() as u32);
-    let section = if rng.one_in(3) {
-        scattered(rng, &bones, free)
+    if rng.one_in(3) {
+        scattered(rng, bones, free)
     } else {
         let n = rng.below(40);
-        Section { graphics: rng.bytes(n), ..Section::written(oracle::write(&bones, free).section()) }
-    };
-    (bones, section)
+        Section { graphics: rng.bytes(n), ..Section::written(oracle::write(bones, free).section()) }
+    }
 }
 
 /// The damaged section of a seed.
 pub fn damaged(seed: u64) -> Case {
     let mut rng = Rng::new(seed);
     let (_, mut section) = good(&mut rng);
+    let changes = damage(&mut section, &mut rng);
+    Case { seed, changes, section }
+}
+
+/// Makes one to three named changes; gives their names.
+pub fn damage(section: &mut Section, rng: &mut Rng) -> Vec<&'static str> {
     let n = 1 + rng.below(6) / 3 + rng.below(6) / 5;
     let mut changes = Vec::new();
     for _ in 0..n {
         let (name, change) = rng.pick(&CHANGES);
-        change(&mut section, &mut rng);
+        change(section, rng);
         changes.push(name);
     }
-    Case { seed, changes, section }
+    changes
 }

@@ -16,6 +16,13 @@ impl Section {
         Section { system, graphics: Vec::new(), root: SYSTEM_BASE }
     }
 
+    /// Becomes the other, in the same memory.
+    pub fn copy_from(&mut self, other: &Section) {
+        self.system.clone_from(&other.system);
+        self.graphics.clone_from(&other.graphics);
+        self.root = other.root;
+    }
+
     /// Every truncation of either half, the whole section among them.
     pub fn truncations(&self) -> impl Iterator<Item = Section> + '_ {
         let cut = |half: &[u8], n: usize| half[..n].to_vec();

@@ -36,7 +36,7 @@ pub fn run(library: &dyn Checks, folder: &Path, seed: u64, extent: Extent, threa
 }
 
 /// The label of a status of the check.
-fn check_label(number: u32) -> &'static str {
+pub fn check_label(number: u32) -> &'static str {
     if number == DONE {
         "ok"
     } else {
@@ -46,22 +46,22 @@ fn check_label(number: u32) -> &'static str {
 
 /// A library to compare, where differences are stored, and a seed.
 #[derive(Clone, Copy)]
-struct Runs<'a> {
-    library: &'a dyn Checks,
-    folder: &'a Path,
-    seed: u64,
+pub struct Runs<'a> {
+    pub library: &'a dyn Checks,
+    pub folder: &'a Path,
+    pub seed: u64,
 }
 
 impl<'a> Runs<'a> {
-    fn with(self, seed: u64) -> Self {
+    pub fn with(self, seed: u64) -> Self {
         Runs { seed, ..self }
     }
 
-    fn place(self, name: &'a str) -> Place<'a> {
+    pub fn place(self, name: &'a str) -> Place<'a> {
         Place { folder: self.folder, name, seed: self.seed }
     }
 
-    fn check(self, tally: &mut Tally, input: &CheckInput, judged: &Judged) -> Result<CheckAnswer, Difference> {
+    pub fn check(self, tally: &mut Tally, input: &CheckInput, judged: &Judged) -> Result<CheckAnswer, Difference> {
         let (place, known) = (self.place("check"), judged.lent(input));
         let answer = compare_known(&place, input, known, |i| check::ours(self.library, i), check::rust)?;
         tally.count("check", check_label(answer.status));

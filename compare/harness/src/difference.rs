@@ -65,11 +65,15 @@ pub fn compare_known<I: Input, A: PartialEq + Debug>(
         return Ok(known);
     }
     let least = shrink(input, |i| ours(i) != rust(i));
-    let text = format!("{}ours {:?}\nrust {:?}\n", least.text(), ours(&least), rust(&least));
+    Err(store(place, format!("{}ours {:?}\nrust {:?}\n", least.text(), ours(&least), rust(&least))))
+}
+
+/// Stores a difference under the place's name.
+pub fn store(place: &Place, text: String) -> Difference {
     fs::create_dir_all(place.folder).expect("the failures folder can be made");
     let file = place.folder.join(format!("{}-{}.txt", place.name, place.seed));
     fs::write(&file, &text).expect("the failure file can be written");
-    Err(Difference { name: place.name.into(), seed: place.seed, file, text })
+    Difference { name: place.name.into(), seed: place.seed, file, text }
 }
 
 /// How long smaller inputs are looked for.

@@ -10,6 +10,7 @@ mod hash;
 mod joints;
 mod lent;
 mod lent_tables;
+mod mass;
 mod model;
 mod options;
 mod program;
@@ -22,12 +23,12 @@ mod smaller;
 mod store;
 mod tally;
 
-use extent::Extent;
 use options::Options;
 use std::fmt::Display;
 use std::path::Path;
 use std::process::ExitCode;
 use std::time::Instant;
+use tally::Tally;
 
 /// The stored sample, from the folder that the harness runs in.
 const STORED: &str = "../crates/replay/stdin";
@@ -49,9 +50,12 @@ fn run(o: &Options) -> Result<(), String> {
     }
     let failures = Path::new("target/failures");
     let _ = std::fs::remove_dir_all(failures);
-    println!("compare: seed {}, {} damaged sections, {} threads", o.seed, o.count, o.threads);
+    println!("compare: seed {}, {} threads", o.seed, o.threads);
     let times = if o.long { 20 } else { 1 };
-    if o.only.is_some() {
+    if o.valgrind {
+        lent::lend_exactly();
+    }
+    if o.valgrind || o.only.is_some() {
         return ours(o, failures);
     }
     stage("self-test", "faults found", || self_test::run(failures))?;
@@ -69,7 +73,7 @@ fn run(o: &Options) -> Result<(), String> {
     stage("joints", "lists", || rigs::joints(o.seed, 500 * times))?;
     stage("hash", "names", || rigs::hash(o.seed, 100_000 * times))?;
     stage("truncations", "", || damaged::truncations(o.seed, 40 * times).map(|t| format!("\n{t}")))?;
-    stage("damaged sections", "", || damaged::run(o.seed, o.count, o.threads).map(|t| format!("\n{t}")))?;
+    stage("damaged sections", "", || damaged::run(o.seed, o.damaged(), o.threads).map(|t| format!("\n{t}")))?;
     println!("compare: passed");
     Ok(())
 }
@@ -79,32 +83,34 @@ fn ours(o: &Options, failures: &Path) -> Result<(), String> {
     if !link::LINKED {
         return Err("the harness was built without librig.a; start it with compare/run".into());
     }
-    let (extent, calls) = if o.long { (Extent::Long, 6_000_000) } else { (Extent::Short, 300_000) };
-    let (seed, threads) = (o.seed, o.threads);
+    let (extent, seed, threads) = (o.extent(), o.seed, o.threads);
     println!("our library against the Rust, all equal:");
+    let calls = extent.of([2_000, 300_000, 6_000_000]) as usize;
     compared(o, "fields", "calls", link::fields(), |l| Ok(fields::run(l, failures, seed, calls)?))?;
     compared(o, "hash", "names", link::hash(), |l| Ok(hash::run(l, failures, seed, extent)?))?;
     compared(o, "deriving", "", link::derive(), |l| {
         let tally = derived::run(l, failures, seed, extent, threads)?;
-        ["tags", "indices", "matrices"].iter().try_for_each(|call| tally.require(call, &["done", "1", "2"]))?;
-        Ok(format!("\n{tally}"))
+        shown(o, tally, |tally| {
+            ["tags", "indices", "matrices"].iter().try_for_each(|call| tally.require(call, &["done", "1", "2"]))
+        })
     })?;
     compared(o, "joints", "", link::joints(), |l| {
         let tally = joints::run(l, failures, seed, extent, threads)?;
-        tally.require("joints read", &["done", "none", "1", "10", "11"])?;
-        tally.require("joints write", &["done", "1", "5", "6"])?;
-        Ok(format!("\n{tally}"))
+        shown(o, tally, |tally| {
+            tally.require("joints read", &["done", "none", "1", "10", "11"])?;
+            tally.require("joints write", &["done", "1", "5", "6"])
+        })
     })?;
     compared(o, "skeletons", "", link::skeletons(), |l| {
-        let tally = skeletons::run(l, failures, seed, extent, threads)?;
-        skeletons::require_all(&tally)?;
-        Ok(format!("\n{tally}"))
+        shown(o, skeletons::run(l, failures, seed, extent, threads)?, skeletons::require_all)
     })?;
     compared(o, "checks", "", link::checks(), |l| {
-        let tally = checks::run(l, failures, seed, extent, threads)?;
-        checks::require_all(&tally)?;
-        Ok(format!("\n{tally}"))
+        shown(o, checks::run(l, failures, seed, extent, threads)?, checks::require_all)
     })?;
+    masses(o, failures)?;
+    if o.valgrind {
+        return Ok(());
+    }
     let path = program::path();
     let started = |bytes: &[u8]| program::printed(&path, bytes);
     compared(o, "program", "", path.is_file().then_some(&started as program::Program), |p| {
@@ -114,6 +120,35 @@ fn ours(o: &Options, failures: &Path) -> Result<(), String> {
         Ok(format!("\n{tally}"))
     })?;
     Ok(())
+}
+
+/// Many calls on few bones.
+fn masses(o: &Options, failures: &Path) -> Result<(), String> {
+    let (seed, threads) = (o.seed, o.threads);
+    compared(o, "reads", "", link::skeletons(), |l| {
+        let done = mass::reads::run(l, failures, seed, o.calls([50_000, 400_000, 100_000_000]), threads)?;
+        shown(o, done, mass::reads::require_all)
+    })?;
+    compared(o, "verdicts", "", link::checks(), |l| {
+        let done = mass::checks::run(l, failures, seed, o.calls([15_000, 100_000, 20_000_000]), threads)?;
+        shown(o, done, mass::checks::require_all)
+    })?;
+    compared(o, "writes", "", link::skeletons(), |l| {
+        let done = mass::writes::run(l, failures, seed, o.calls([8_000, 50_000, 11_000_000]), threads)?;
+        shown(o, done, mass::writes::require_all)
+    })
+}
+
+/// What a stage is held to have met: nothing of a run that was made small by its words.
+fn shown<T: Display + AsRef<Tally>>(
+    o: &Options,
+    given: T,
+    required: impl Fn(&Tally) -> Result<(), String>,
+) -> Result<String, String> {
+    if !o.is_small() {
+        required(given.as_ref())?;
+    }
+    Ok(format!("\n{given}"))
 }
 
 /// Runs the comparison of one group of exports, or of the program. What is missing is a line, or an error if required.

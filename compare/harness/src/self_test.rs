@@ -11,7 +11,7 @@ mod skeletons;
 
 use crate::difference::Difference;
 use crate::extent::Extent::Test;
-use crate::{derived, hash, lent};
+use crate::{derived, hash, lent, mass};
 use fields::{Fault, Faulty};
 use std::path::Path;
 
@@ -27,6 +27,7 @@ pub fn run(folder: &Path) -> Result<usize, String> {
         + limits(folder)?
         + sections(folder)?
         + checked(folder)?
+        + masses(folder)?
         + printed(folder)?)
 }
 
@@ -95,6 +96,45 @@ fn checked(folder: &Path) -> Result<usize, String> {
         }
     }
     Ok(checks::FAULTS.len())
+}
+
+/// The same faults in the stages of many calls, and each place of what these lend touched behind the call.
+fn masses(folder: &Path) -> Result<usize, String> {
+    const CALLS: u64 = 20_000;
+    let touches = [
+        (mass::reads::touches_are_noticed(&skeletons::Faulty(None)), "reads"),
+        (mass::checks::touches_are_noticed(&checks::Faulty(None)), "verdicts"),
+        (mass::writes::touches_are_noticed(&skeletons::Faulty(None)), "writes"),
+    ];
+    if let Some((_, stage)) = touches.iter().find(|(noticed, _)| !noticed) {
+        return Err(format!("self-test: what was touched in the memory of {stage} was not found"));
+    }
+    // each fault shows in few bones and their lists
+    let small = |run: Result<mass::Done, Difference>, fault: &str| {
+        let d = stored(run, fault)?;
+        if system(&d) > 1_600 || bones(&d) > 2 {
+            return Err(format!("self-test: {fault} was not shrunk:\n{}", d.text));
+        }
+        Ok(())
+    };
+    let reads = |fault| mass::reads::run(&skeletons::Faulty(fault), folder, 1, CALLS, 1);
+    let verdicts = |fault| mass::checks::run(&checks::Faulty(fault), folder, 1, CALLS, 1);
+    let writes = |fault| mass::writes::run(&skeletons::Faulty(fault), folder, 1, CALLS, 1);
+    none(reads(None))?;
+    none(verdicts(None))?;
+    none(writes(None))?;
+    for fault in skeletons::faults() {
+        let run = if matches!(fault, skeletons::Fault::Read(_)) { reads(Some(fault)) } else { writes(Some(fault)) };
+        small(run, &format!("{fault:?} of many"))?;
+    }
+    for fault in checks::OF_CHECK {
+        small(verdicts(Some(fault)), &format!("{fault:?} of many"))?;
+    }
+    // a fault of reading in the round trip
+    for fault in skeletons::ROUND_TRIP {
+        small(writes(Some(fault)), &format!("{fault:?} of the round trip"))?;
+    }
+    Ok(touches.len() + skeletons::faults().count() + checks::OF_CHECK.len() + skeletons::ROUND_TRIP.len())
 }
 
 fn printed(folder: &Path) -> Result<usize, String> {

@@ -11,17 +11,21 @@ pub fn share<E: Send>(
     threads: u64,
     one: impl Fn(&mut Tally, u64) -> Result<(), E> + Sync,
 ) -> Result<Tally, E> {
-    let part = |first: u64| {
+    let parts = workers(threads, |first| {
         let mut tally = Tally::default();
         (first..count).step_by(threads as usize).try_for_each(|i| one(&mut tally, seed + i))?;
         Ok(tally)
-    };
+    })?;
+    let mut all = Tally::default();
+    parts.iter().for_each(|part| all.merge(part));
+    Ok(all)
+}
+
+/// What each of so many threads gives, by its number.
+pub fn workers<W: Send, E: Send>(threads: u64, work: impl Fn(u64) -> Result<W, E> + Sync) -> Result<Vec<W>, E> {
     thread::scope(|scope| {
-        let parts: Vec<_> = (0..threads).map(|first| scope.spawn(move || part(first))).collect();
-        let mut all = Tally::default();
-        for part in parts {
-            all.merge(&part.join().unwrap_or_else(|panic| resume_unwind(panic))?);
-        }
-        Ok(all)
+        let work = &work;
+        let parts: Vec<_> = (0..threads).map(|number| scope.spawn(move || work(number))).collect();
+        parts.into_iter().map(|part| part.join().unwrap_or_else(|panic| resume_unwind(panic))).collect()
     })
 }

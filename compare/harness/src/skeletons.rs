@@ -35,22 +35,22 @@ pub fn run(library: &dyn Skeletons, folder: &Path, seed: u64, extent: Extent, th
 
 /// A library to compare, where differences are stored, and a seed.
 #[derive(Clone, Copy)]
-struct Runs<'a> {
-    library: &'a dyn Skeletons,
-    folder: &'a Path,
-    seed: u64,
+pub struct Runs<'a> {
+    pub library: &'a dyn Skeletons,
+    pub folder: &'a Path,
+    pub seed: u64,
 }
 
 impl<'a> Runs<'a> {
-    fn with(self, seed: u64) -> Self {
+    pub fn with(self, seed: u64) -> Self {
         Runs { seed, ..self }
     }
 
-    fn place(self, name: &'a str) -> Place<'a> {
+    pub fn place(self, name: &'a str) -> Place<'a> {
         Place { folder: self.folder, name, seed: self.seed }
     }
 
-    fn read(self, tally: &mut Tally, input: &ReadInput, asked: &Asked) -> Result<ReadAnswer, Difference> {
+    pub fn read(self, tally: &mut Tally, input: &ReadInput, asked: &Asked) -> Result<ReadAnswer, Difference> {
         let (place, known) = (self.place("skeleton_read"), asked.lent(&input.lengths));
         let answer = compare_known(&place, input, known, |i| read::ours(self.library, i), read::rust)?;
         tally.count("read", status(answer.status));
@@ -61,7 +61,7 @@ impl<'a> Runs<'a> {
         self.write_known(tally, input, &input.section())
     }
 
-    fn write_known(self, tally: &mut Tally, input: &WriteInput, section: &Published) -> Result<WriteAnswer, Difference> {
+    pub fn write_known(self, tally: &mut Tally, input: &WriteInput, section: &Published) -> Result<WriteAnswer, Difference> {
         let (place, known) = (self.place("skeleton_write"), input.lent(section));
         let answer = compare_known(&place, input, known, |i| write::ours(self.library, i), write::rust)?;
         tally.count("write", status(answer.status));

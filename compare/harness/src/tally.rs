@@ -29,6 +29,12 @@ impl Tally {
     }
 }
 
+impl AsRef<Tally> for Tally {
+    fn as_ref(&self) -> &Tally {
+        self
+    }
+}
+
 impl fmt::Display for Tally {
     fn fmt(&self, f: &mut fmt::Formatter<'_>) -> fmt::Result {
         let mut last = "";

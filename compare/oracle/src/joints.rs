@@ -2,10 +2,10 @@
 
 use crate::bone::{vec3, vec3_words};
 use crate::refusal::number;
-use crate::write::{place_all, write_all, Written};
+use crate::write::{Placed, Written};
 use rage_formats::blocks::base::StructArray;
 use rage_formats::blocks::skeleton::{self, JointRotationLimit, JointTranslationLimit};
-use rage_formats::blocks::{ydr, BlockId, Graph};
+use rage_formats::blocks::{ydr, Graph};
 
 /// A rotation limit; `other` has a word for each of its 48 slots.
 #[derive(Clone, Copy, Debug, PartialEq, Eq)]
@@ -68,20 +68,19 @@ pub fn joints_read(system: &[u8], graphics: &[u8], root: u64) -> JointsAnswer {
 
 /// Lays joints, rotation limits and translation limits from 50000000 hex. Refuses with 6.
 pub fn joints_write(rotations: &[RotationLimit], translations: &[TranslationLimit]) -> Written {
-    let (g, parts, end) = placed_limits(rotations, translations);
-    write_all(&g, &parts, end)
+    let (g, placed) = placed_limits(rotations, translations);
+    placed.write(&g)
 }
 
-/// The blocks in their places, and the section's length.
-pub(crate) fn placed_limits(rotations: &[RotationLimit], translations: &[TranslationLimit]) -> (Graph, Vec<Vec<BlockId>>, usize) {
+/// The blocks in their places.
+pub(crate) fn placed_limits(rotations: &[RotationLimit], translations: &[TranslationLimit]) -> (Graph, Placed) {
     let mut g = Graph::new();
     let rotations = rotations.iter().map(published_rotation).collect();
     let translations = translations.iter().map(published_translation).collect();
     let root = skeleton::Joints::from_limits(&mut g, rotations, translations);
-    let j = g.get::<skeleton::Joints>(root);
-    let parts = vec![vec![root], j.rotation_limits.into_iter().collect(), j.translation_limits.into_iter().collect()];
-    let end = place_all(&mut g, &parts);
-    (g, parts, end)
+    let &skeleton::Joints { rotation_limits, translation_limits, .. } = g.get(root);
+    let placed = Placed::of(&mut g, [Some(root), rotation_limits, translation_limits]);
+    (g, placed)
 }
 
 /// `JointRotationLimit::default()`.

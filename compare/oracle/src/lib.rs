@@ -27,7 +27,7 @@ pub use fields::{put_u16, put_u32, put_u64, u16_at, u32_at, u64_at};
 pub use joints::{fresh_rotation_limit, joints_read, joints_write, Joints, JointsAnswer, RotationLimit, TranslationLimit};
 pub use lookup::{lookup, Found};
 pub use names::NameBytes;
-pub use prepared::{PreparedBlocks, PreparedBones, PreparedRig, PreparedSection};
+pub use prepared::{DerivedRig, PreparedBlocks, PreparedBones, PreparedRig, PreparedSection};
 pub use prepared_check::{derive_read, Derived};
 pub use rage_formats::hash::rage_joaat;
 pub use rage_formats::math::{Mat4, Vec3, Vec4};

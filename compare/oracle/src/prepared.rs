@@ -2,7 +2,7 @@
 
 use crate::bone::{published, Bone};
 use crate::joints::{placed_limits, RotationLimit, TranslationLimit};
-use crate::write::{named_bones, parts, place_all, write_all};
+use crate::write::{named_bones, Placed};
 use rage_formats::blocks::skeleton::{self, Joints, Skeleton};
 use rage_formats::blocks::{ydr, BlockId, Graph, Reader};
 use rage_formats::math::Mat4;
@@ -68,37 +68,53 @@ impl PreparedRig {
         PreparedRig { g, names, bones }
     }
 
-    /// The blocks of the skeleton with its derived tables, in their places.
-    pub fn derived(self) -> PreparedBlocks {
+    /// The blocks of the skeleton with its derived tables.
+    pub fn derived(self) -> DerivedRig {
         let PreparedRig { mut g, names, bones } = self;
         let root = Skeleton::from_bones(&mut g, bones, 0, 0, 0, 0);
-        let parts = parts(&g, root, names);
-        let end = place_all(&mut g, &parts);
-        PreparedBlocks { g, parts, end }
+        DerivedRig { g, names, root }
     }
 
     /// The section, and the blocks that it was written from.
-    pub fn write(self) -> (Vec<u8>, PreparedBlocks) {
-        let blocks = self.derived();
-        (blocks.write(), blocks)
+    pub fn write(self) -> (Vec<u8>, DerivedRig) {
+        let mut derived = self.derived();
+        (derived.write(), derived)
+    }
+}
+
+/// The blocks of a skeleton, not placed.
+pub struct DerivedRig {
+    g: Graph,
+    names: Vec<Option<BlockId>>,
+    root: BlockId,
+}
+
+impl DerivedRig {
+    /// Places the blocks and writes the section into a buffer of its own.
+    pub fn write(&mut self) -> Vec<u8> {
+        Placed::skeleton(&mut self.g, self.root, &self.names).write(&self.g).section()
+    }
+
+    pub fn placed(mut self) -> PreparedBlocks {
+        let placed = Placed::skeleton(&mut self.g, self.root, &self.names);
+        PreparedBlocks { g: self.g, placed }
     }
 }
 
 /// Blocks that are placed already.
 pub struct PreparedBlocks {
     g: Graph,
-    parts: Vec<Vec<BlockId>>,
-    end: usize,
+    placed: Placed,
 }
 
 impl PreparedBlocks {
     pub fn of_limits(rotations: &[RotationLimit], translations: &[TranslationLimit]) -> Self {
-        let (g, parts, end) = placed_limits(rotations, translations);
-        PreparedBlocks { g, parts, end }
+        let (g, placed) = placed_limits(rotations, translations);
+        PreparedBlocks { g, placed }
     }
 
     /// The section, written into a buffer of its own.
     pub fn write(&self) -> Vec<u8> {
-        write_all(&self.g, &self.parts, self.end).section()
+        self.placed.write(&self.g).section()
     }
 }

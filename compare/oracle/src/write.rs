@@ -9,6 +9,10 @@ use rage_formats::blocks::skeleton::{self, Skeleton, SkeletonBoneTag};
 use rage_formats::blocks::{ydr, BlockId, Graph, Section, Writer};
 use rage_formats::math::Mat4;
 use rage_formats::resource::SYSTEM_BASE;
+use std::ops::Range;
+
+/// The length of a tag entry.
+const ENTRY: usize = 16;
 
 /// What writing gives.
 #[derive(Clone, Debug, PartialEq, Eq)]
@@ -43,9 +47,8 @@ pub fn write(bones: &[Bone], free: [u32; 4]) -> Written {
     let (names, bones) = named_bones(&mut g, bones);
     let root = Skeleton::from_bones(&mut g, bones, free[0], free[1], free[2], free[3]);
     settle_matrices(&mut g);
-    let places = parts(&g, root, names);
-    let end = place_all(&mut g, &places);
-    write_all(&g, &places, end)
+    let placed = Placed::skeleton(&mut g, root, &names);
+    placed.write(&g)
 }
 
 /// Whether no name is over 255 bytes or holds a zero byte.
@@ -77,58 +80,94 @@ fn settle_matrices(g: &mut Graph) {
     }
 }
 
-/// 01's parts in order, each a run of blocks that lie one behind the other.
-pub(crate) fn parts(g: &Graph, root: BlockId, names: Vec<Option<BlockId>>) -> Vec<Vec<BlockId>> {
-    let s = g.get::<Skeleton>(root);
-    let one = |id: Option<BlockId>| id.into_iter().collect::<Vec<_>>();
-    vec![
-        vec![root],
-        one(s.bone_tags),
-        s.bone_tags.map_or_else(Vec::new, |t| chained(g, &g.get::<PointerArray64>(t).items)),
-        one(s.bones),
-        names.into_iter().flatten().collect(),
-        one(s.transforms_inv),
-        one(s.transforms),
-        one(s.parent_indices),
-        one(s.child_indices),
-    ]
+/// Blocks in the order in which 01 lays them, each in its place.
+pub(crate) struct Placed {
+    order: Vec<BlockId>,
+    parts: Vec<Part>,
+    end: usize,
 }
 
-/// The entries in bucket and chain order.
-fn chained(g: &Graph, firsts: &[Option<BlockId>]) -> Vec<BlockId> {
-    let mut out = Vec::new();
-    for &first in firsts {
-        let mut at = first;
-        while let Some(id) = at {
-            out.push(id);
-            at = g.get::<SkeletonBoneTag>(id).next;
-        }
-    }
-    out
+/// Blocks of the order that lie one behind the other, and their bytes.
+struct Part {
+    blocks: Range<usize>,
+    bytes: Range<usize>,
 }
 
-/// Places every part on a multiple of 16 from 50000000 hex; gives the section's length.
-pub(crate) fn place_all(g: &mut Graph, parts: &[Vec<BlockId>]) -> usize {
-    let mut at = 0usize;
-    for part in parts {
-        for &id in part {
-            ydr::place(g, id, SYSTEM_BASE + at as u64);
-            at += g.length(id);
-        }
-        at = at.next_multiple_of(16);
+impl Placed {
+    fn new(blocks: usize) -> Self {
+        Placed { order: Vec::with_capacity(blocks), parts: Vec::with_capacity(9), end: 0 }
     }
-    at
-}
 
-/// Runs each block's `write`; a refusal is the first block's that refuses.
-pub(crate) fn write_all(g: &Graph, parts: &[Vec<BlockId>], length: usize) -> Written {
-    let mut w = Writer::new(SYSTEM_BASE, length);
-    for &id in parts.iter().flatten() {
-        if let Err(e) = ydr::write_block(&mut w, g, id) {
-            return Written::Refused(number(&e.to_string()));
-        }
+    /// 01's parts in order from 50000000 hex: skeleton, buckets, entries in bucket and chain order, bones, names in bone order, lists.
+    pub fn skeleton(g: &mut Graph, root: BlockId, names: &[Option<BlockId>]) -> Self {
+        let mut placed = Placed::new(2 * names.len() + 7);
+        let &Skeleton { bone_tags, bones, transforms_inv, transforms, parent_indices, child_indices, .. } =
+            g.get::<Skeleton>(root);
+        placed.add(g, [Some(root)]);
+        placed.add(g, [bone_tags]);
+        placed.add_entries(g, bone_tags);
+        placed.add(g, [bones]);
+        placed.add(g, names.iter().copied());
+        [transforms_inv, transforms, parent_indices, child_indices].into_iter().for_each(|list| placed.add(g, [list]));
+        placed
     }
-    let bytes = w.into_inner();
-    assert_eq!(bytes.len(), length, "a block wrote past the place it was given");
-    Written::Section(bytes)
+
+    /// Parts of a block each, or none.
+    pub fn of<const N: usize>(g: &mut Graph, parts: [Option<BlockId>; N]) -> Self {
+        let mut placed = Placed::new(N);
+        parts.into_iter().for_each(|part| placed.add(g, [part]));
+        placed
+    }
+
+    /// Places a part on a multiple of 16.
+    fn add(&mut self, g: &mut Graph, blocks: impl IntoIterator<Item = Option<BlockId>>) {
+        let (first, start) = (self.order.len(), self.end);
+        for id in blocks.into_iter().flatten() {
+            ydr::place(g, id, SYSTEM_BASE + self.end as u64);
+            self.end += g.length(id);
+            self.order.push(id);
+        }
+        self.close(first, start);
+    }
+
+    /// As `add`, the entries of chains, whose length is known.
+    fn add_entries(&mut self, g: &mut Graph, bone_tags: Option<BlockId>) {
+        let (first, start) = (self.order.len(), self.end);
+        for &bucket in bone_tags.iter().flat_map(|&tags| &g.get::<PointerArray64>(tags).items) {
+            let mut at = bucket;
+            while let Some(id) = at {
+                self.order.push(id);
+                at = g.get::<SkeletonBoneTag>(id).next;
+            }
+        }
+        for &id in &self.order[first..] {
+            ydr::place(g, id, SYSTEM_BASE + self.end as u64);
+            self.end += ENTRY;
+        }
+        self.close(first, start);
+    }
+
+    fn close(&mut self, first: usize, start: usize) {
+        self.parts.push(Part { blocks: first..self.order.len(), bytes: start..self.end });
+        self.end = self.end.next_multiple_of(16);
+    }
+
+    /// Runs each block's `write`; a refusal is the first block's that refuses.
+    pub fn write(&self, g: &Graph) -> Written {
+        let mut w = Writer::new(SYSTEM_BASE, self.end);
+        for Part { blocks, bytes } in &self.parts {
+            w.seek(SYSTEM_BASE + bytes.start as u64);
+            for &id in &self.order[blocks.clone()] {
+                // the block before it wrote as many bytes as it has
+                assert_eq!(w.position(), g.position(id), "a block behind one that wrote another length than its own");
+                if let Err(e) = ydr::write_block(&mut w, g, id) {
+                    return Written::Refused(number(&e.to_string()));
+                }
+            }
+            assert_eq!(w.position(), SYSTEM_BASE + bytes.end as u64, "a part that wrote another length than its own");
+        }
+        let bytes = w.into_inner();
+        assert_eq!(bytes.len(), self.end, "a block wrote past the place it was given");
+        Written::Section(bytes)
+    }
 }

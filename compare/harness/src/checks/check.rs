@@ -44,6 +44,20 @@ pub struct Judged {
 }
 
 impl Judged {
+    pub fn of(section: &Section) -> Self {
+        Self::by(Asked::of(section), check_reading)
+    }
+
+    fn by(reading: Asked, verdict: impl FnOnce(&Reading) -> Verdict) -> Self {
+        let verdict = if let Answer::Read(r) = &reading.answer { Some(verdict(r)) } else { None };
+        Judged { reading, verdict }
+    }
+
+    /// The words that the bones read want of each table for deriving.
+    pub fn sizes(&self) -> [usize; 7] {
+        sizes(self.bones().len())
+    }
+
     /// The bones read.
     pub fn bones(&self) -> &[Bone] {
         match &self.reading.answer {
@@ -52,18 +66,21 @@ impl Judged {
         }
     }
 
-    /// The check in tables of these lengths: reading's refusals, then 1 where a table for deriving is shorter than the bones
-    /// read want it, then the verdict. Reading's tables are kept after an acceptance only.
-    pub fn lent(&self, i: &CheckInput) -> CheckAnswer {
-        let read = self.reading.lent(&i.read.lengths);
-        let short = self.short(&i.derived);
-        let (status, count) = match (read.status, self.verdict) {
-            (DONE, _) if short => (1, 0),
+    /// The status and the count of bones in tables of these lengths: reading's refusals, then 1 where a table for deriving is
+    /// shorter than the bones read want it, then the verdict.
+    pub fn status(&self, read: &[usize; 8], derived: &[usize; 7]) -> (u32, usize) {
+        match (self.reading.status(read), self.verdict) {
+            (DONE, _) if self.short(derived) => (1, 0),
             (DONE, Some(Verdict::Accepted(n))) => (DONE, n),
             (DONE, Some(Verdict::Refused(number))) => (number as u32, 0),
             (status, _) => (status, 0),
-        };
-        let mut tables = read.tables;
+        }
+    }
+
+    /// The check in tables of these lengths. Reading's tables are kept after an acceptance only.
+    pub fn lent(&self, i: &CheckInput) -> CheckAnswer {
+        let (status, count) = self.status(&i.read.lengths, &i.derived);
+        let mut tables = self.reading.lent(&i.read.lengths).tables;
         if status != DONE {
             tables.iter_mut().for_each(|table| table.fill(0));
         }
@@ -73,7 +90,7 @@ impl Judged {
 
     /// Whether a table for deriving is too short for the bones read.
     pub fn short(&self, derived: &[usize; 7]) -> bool {
-        derived.iter().zip(sizes(self.bones().len())).any(|(&length, size)| length < size)
+        derived.iter().zip(self.sizes()).any(|(&length, size)| length < size)
     }
 }
 
@@ -86,9 +103,8 @@ impl CheckInput {
     /// As `exact`, with the verdict on a reading given.
     pub fn judged(section: Section, dirt: u64, verdict: impl FnOnce(&Reading) -> Verdict) -> (Self, Judged) {
         let (read, reading) = ReadInput::exact(section, dirt);
-        let verdict = if let Answer::Read(r) = &reading.answer { Some(verdict(r)) } else { None };
-        let judged = Judged { reading, verdict };
-        (CheckInput { read, derived: sizes(judged.bones().len()) }, judged)
+        let judged = Judged::by(reading, verdict);
+        (CheckInput { read, derived: judged.sizes() }, judged)
     }
 
     /// With so many words more or fewer in one table.

@@ -92,6 +92,24 @@ pub const FAULTS: [Fault; 25] = [
     NothingLeft,
 ];
 
+/// Those of the check.
+pub const OF_CHECK: [Fault; 14] = [
+    AcceptsAll,
+    AcceptsNone,
+    TablesKept,
+    TablesLost,
+    PoolLeft,
+    NoneDirty,
+    PendingLeft,
+    OneForgotten,
+    OneLate,
+    ChildrenShort,
+    StoredCount,
+    RefusalCount,
+    ParentsFirst,
+    LocalForgotten,
+];
+
 pub struct Faulty(pub Option<Fault>);
 
 impl Faulty {

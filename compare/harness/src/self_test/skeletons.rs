@@ -19,6 +19,10 @@ pub fn faults() -> impl Iterator<Item = Fault> {
     read::FAULTS.map(Fault::Read).into_iter().chain(write::FAULTS.map(Fault::Write))
 }
 
+/// Faults of reading that show in what was written.
+pub const ROUND_TRIP: [Fault; 3] =
+    [Fault::Read(read::Fault::KeptLost), Fault::Read(read::Fault::NameSize), Fault::Read(read::Fault::PoolLeft)];
+
 /// Whether it is noticed that the bones of 65,536 child entries are taken.
 pub fn three_is_noticed() -> bool {
     const CHAIN: usize = LONGEST_WRITTEN + 1;

@@ -23,24 +23,39 @@ pub struct Asked {
 }
 
 impl Asked {
-    fn of(s: &Section) -> Self {
+    pub fn of(s: &Section) -> Self {
         let (answer, rows) = read_rows(&s.system, &s.graphics, s.root);
         Asked { answer, rows }
     }
 
-    /// The reading in tables of these lengths: 1 where it uses more rows of one of them than there are.
-    pub fn lent(&self, lengths: &[usize; 8]) -> ReadAnswer {
+    /// The words of the rows that reading uses.
+    pub fn exact(&self) -> [usize; 8] {
+        tables::exact(&self.rows)
+    }
+
+    /// The status in tables of these lengths: 1 where it uses more rows of one of them than there are.
+    pub fn status(&self, lengths: &[usize; 8]) -> u32 {
         let used = tables::used(&self.rows);
         let short = (0..8).any(|table| lengths[table] / tables::WIDTHS[table] < used[table]);
-        let (status, read) = match &self.answer {
-            Answer::None => (NONE, None),
-            _ if short => (1, None),
-            Answer::Refused(number) => (*number as u32, None),
-            Answer::Read(reading) => (DONE, Some(reading)),
-        };
-        let mut words = read.map_or_else(Default::default, |reading| tables::words(reading));
+        match &self.answer {
+            Answer::None => NONE,
+            _ if short => 1,
+            Answer::Refused(number) => *number as u32,
+            Answer::Read(_) => DONE,
+        }
+    }
+
+    /// The fields and the rows of a reading that is done.
+    pub fn left(&self) -> Option<(SkeletonFields, [Vec<u32>; 7])> {
+        let Answer::Read(reading) = &self.answer else { return None };
+        Some((fields(reading), tables::words(reading)))
+    }
+
+    /// The reading in tables of these lengths.
+    pub fn lent(&self, lengths: &[usize; 8]) -> ReadAnswer {
+        let status = self.status(lengths);
+        let (fields, mut words) = self.left().filter(|_| status == DONE).unwrap_or_default();
         words.iter_mut().zip(lengths).for_each(|(table, &length)| table.resize(length, 0));
-        let fields = read.map_or([0; 20], |reading| fields(reading));
         ReadAnswer { status, fields: fields.to_vec(), tables: words, pool: vec![0; lengths[7]], intact: true }
     }
 }
@@ -49,7 +64,7 @@ impl ReadInput {
     /// With tables of just the rows that reading uses; what it gives, too.
     pub fn exact(section: Section, dirt: u64) -> (Self, Asked) {
         let asked = Asked::of(&section);
-        (ReadInput { section, lengths: tables::exact(&asked.rows), dirt }, asked)
+        (ReadInput { section, lengths: asked.exact(), dirt }, asked)
     }
 
     /// With so many words more or fewer in one table.
@@ -62,10 +77,10 @@ impl ReadInput {
 
 impl Input for ReadInput {
     fn smaller(&self) -> impl Iterator<Item = Self> {
-        let was = tables::exact(&Asked::of(&self.section).rows);
+        let was = Asked::of(&self.section).exact();
         // each table as much longer or shorter than it must be as it was
         let sections = self.section.smaller().map(move |section| {
-            let now = tables::exact(&Asked::of(&section).rows);
+            let now = Asked::of(&section).exact();
             let lengths = std::array::from_fn(|t| (self.lengths[t] + now[t]).saturating_sub(was[t]));
             ReadInput { section, lengths, dirt: self.dirt }
         });

@@ -54,6 +54,18 @@ impl WriteInput {
     /// The published section of the bones asked for, whatever the buffer. Refusals in 01's order: 2; 1 for the table of bones;
     /// 4; 1 for the working tables; 3.
     pub fn section(&self) -> Published {
+        self.tested(|bones| match write(bones, self.free) {
+            Written::Section(bytes) => Ok(bytes),
+            Written::Refused(number) => Err(number as u32),
+        })
+    }
+
+    /// The same, where the section of the bones, or 3, is known if it is looked at.
+    pub fn section_known(&self, known: &Published) -> Published {
+        self.tested(|_| known.clone())
+    }
+
+    fn tested(&self, published: impl FnOnce(&[Bone]) -> Published) -> Published {
         if self.n > MOST {
             return Err(2);
         }
@@ -64,10 +76,7 @@ impl WriteInput {
         if self.lengths().into_iter().zip(sizes(self.n)).any(|(length, size)| length < size) {
             return Err(1);
         }
-        match write(&bones, self.free) {
-            Written::Section(bytes) => Ok(bytes),
-            Written::Refused(number) => Err(number as u32),
-        }
+        published(&bones)
     }
 
     /// The bones with their names; `None` where a name does not lie in the lent bytes.
@@ -81,17 +90,21 @@ impl WriteInput {
         self.bones.chunks_exact(rows::BONE).take(self.n).map(named).collect()
     }
 
-    /// The section at the front of the buffer, which is else as it was; 5 where it is longer. The working tables are zero.
-    pub fn lent(&self, section: &Published) -> WriteAnswer {
-        let mut out = self.dirty();
-        let (status, count) = match section {
+    /// The status and the number of bytes: 5 where the section is longer than the buffer.
+    pub fn status(&self, section: &Published) -> (u32, usize) {
+        match section {
             Err(number) => (*number, 0),
-            Ok(bytes) if bytes.len() > out.len() => (5, 0),
-            Ok(bytes) => {
-                out[..bytes.len()].copy_from_slice(bytes);
-                (DONE, bytes.len())
-            }
-        };
+            Ok(bytes) if bytes.len() > self.out => (5, 0),
+            Ok(bytes) => (DONE, bytes.len()),
+        }
+    }
+
+    /// The section at the front of the buffer, which is else as it was; the working tables are zero.
+    pub fn lent(&self, section: &Published) -> WriteAnswer {
+        let (mut out, (status, count)) = (self.dirty(), self.status(section));
+        if let Ok(bytes) = section {
+            out[..count].copy_from_slice(&bytes[..count]);
+        }
         let tables = self.lengths().into_iter().map(|length| vec![0; length]).collect();
         WriteAnswer { status, count, out, tables, intact: true }
     }
@@ -140,23 +153,25 @@ pub struct WriteAnswer {
     pub out: Vec<u8>,
     /// 16-bit words widened.
     tables: Vec<Vec<u32>>,
-    /// Bones, names and guards are as they were.
+    /// Bones, names, free words and guards are as they were.
     intact: bool,
 }
 
 /// Makes the call on dirty tables and a dirty buffer between guards.
 pub fn ours(library: &dyn Skeletons, i: &WriteInput) -> WriteAnswer {
     let (mut rng, lengths, mut intact) = (Rng::new(i.dirt), i.lengths(), true);
-    let mut bones = Lent::of(&i.bones);
+    let (mut bones, mut free) = (Lent::of(&i.bones), Lent::of(&i.free));
     let [mut system, mut graphics] = i.names.each_ref().map(|half| Lent::of(half));
     let mut lent = LentDerived::dirty(&lengths, &mut rng);
     let (mut out, mut count) = (Lent::of(&i.dirty()), Lent::<usize>::dirty(1, &mut rng));
     let status = {
         let names = Halves { system: system.slice(), graphics: graphics.slice() };
         let [count] = count.array();
-        library.write(WrittenBones { table: bones.slice(), n: i.n, names, free: &i.free }, lent.tables(), out.slice(), count)
+        let bones = WrittenBones { table: bones.slice(), n: i.n, names, free: free.array() };
+        library.write(bones, lent.tables(), out.slice(), count)
     };
     bones.kept(&i.bones, &mut intact);
+    free.kept(&i.free, &mut intact);
     system.kept(&i.names[0], &mut intact);
     graphics.kept(&i.names[1], &mut intact);
     let (tables, count) = (lent.back(&mut intact), count.back(&mut intact)[0]);
