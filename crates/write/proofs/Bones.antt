@@ -6,7 +6,7 @@ use Prim.Native.Nat.{ℕ, zero, suc, _+_, _-_, _*_, _^_, _≤_, _<_}
 use native.Mathlib.Nat.{add-zero, add-assoc, sub-zero}
 use native.Mathlib.Omega.{arith}
 use lib.ListN.{length, take, drop, length-drop}
-use lib.Seq.{sets, take-all, drop-drop}
+use lib.Seq.{sets, drop-drop, getD-take, length-take-le}
 use Rattle.format.specs.Field.{wordBytes, _⊳_, lay}
 use Rattle.format.specs.Section.{Place}
 use Rattle.format.specs.Bone.{Bone}
@@ -81,26 +81,52 @@ bones-next t n p h =
     let k : 21 * p + 21 ≡ 21 * (p + 1) = omega arith in
     rw (e, drop-drop 21 (21 * p) t, k)
 
--- the part of a table from a word on
-pub part-from : (t : List ℕ) (k : ℕ) → take (length t - k) (drop k t) ≡ drop k t
-part-from t k = take-all (length t - k) (drop k t) (simp length-drop (omega arith))
+-- the bone of a row is that of its 21 words
+bone-words-first : (w : List ℕ) → boneOf (take 21 w) ≡ boneOf w
+unfolding boneOf
+bone-words-first w =
+    rw (
+      getD-take 21 w 0 0 (omega arith),
+      getD-take 21 w 1 0 (omega arith),
+      getD-take 21 w 2 0 (omega arith),
+      getD-take 21 w 3 0 (omega arith),
+      getD-take 21 w 4 0 (omega arith),
+      getD-take 21 w 5 0 (omega arith),
+      getD-take 21 w 6 0 (omega arith),
+      getD-take 21 w 7 0 (omega arith),
+      getD-take 21 w 8 0 (omega arith),
+      getD-take 21 w 9 0 (omega arith),
+      getD-take 21 w 10 0 (omega arith),
+      getD-take 21 w 11 0 (omega arith),
+      getD-take 21 w 12 0 (omega arith),
+      getD-take 21 w 13 0 (omega arith),
+      getD-take 21 w 14 0 (omega arith),
+      getD-take 21 w 15 0 (omega arith),
+      getD-take 21 w 16 0 (omega arith),
+      getD-take 21 w 17 0 (omega arith),
+      getD-take 21 w 18 0 (omega arith),
+      getD-take 21 w 19 0 (omega arith),
+      getD-take 21 w 20 0 (omega arith),
+    )
+
+-- a row, as `row_in` gives it
+module _ (t : List ℕ) (p : ℕ) {row : List ℕ} (e : row ≡ take 21 (drop (21 * p) t)) where
+  pub row-bone : boneOf row ≡ boneOf (drop (21 * p) t)
+  row-bone = ap boneOf e ∙ bone-words-first (drop (21 * p) t)
+
+  pub row-whole : 21 * p + 21 ≤ length t → length row ≡ 21
+  row-whole h = ap length e ∙ length-take-le 21 (drop (21 * p) t) (simp length-drop (omega arith))
 
 module _ {t : List ℕ} {n : ℕ} {d₀ : List ℕ} {at names : ℕ} {d : List ℕ} {name p : ℕ} (r : BonesRoom t n at names (length d₀))
-    (h : Boning t n d₀ at names d name p) (l : p < n) where
-  -- the row, as the code has it
-  abbrev row : List ℕ
-  row = take (length t - 21 * p) (drop (21 * p) t)
-
+    (h : Boning t n d₀ at names d name p) (l : p < n) {row : List ℕ} (er : row ≡ take 21 (drop (21 * p) t)) where
   pub boning-short : ShortName row
-  boning-short = rw (part-from t (21 * p)) whole-row
-    where
-      whole-row : ShortName (drop (21 * p) t)
-      whole-row = record { whole = simp length-drop (omega (arith, r .rows)); short = r .short p l }
+  boning-short =
+      record { whole = omega (arith, row-whole t p er (omega (arith, r .rows))); short = rw (row-bone t p er) (r .short p l) }
 
   pub boning-small : {m : ℕ} → m ≡ takes (boneOf row .name) → name + m ≤ window
   unfolding takesAll
   boning-small {m} e =
-      let f : m ≡ takes (boneOf (drop (21 * p) t) .name) = rw (part-from t (21 * p)) at e in
+      let f : m ≡ takes (boneOf (drop (21 * p) t) .name) = rw (row-bone t p er) at e in
       omega (arith, r .small, f, rw (bones-next t n p l) at (h .counts))
 
   -- room for the record
@@ -112,8 +138,8 @@ module _ {t : List ℕ} {n : ℕ} {d₀ : List ℕ} {at names : ℕ} {d : List �
       → d′ ≡ sets d (at + 80 * p) (lay (boneItems (boneOf row) a)) → Boning t n d₀ at names d′ (name + m) (p + 1)
   unfolding records takesAll
   boning-more {d′} {m} {a} em′ ea e′ =
-      let em : m ≡ takes (boneOf (drop (21 * p) t) .name) = rw (part-from t (21 * p)) at em′ in
-      let e : d′ ≡ sets d (at + 80 * p) (lay (boneItems (boneOf (drop (21 * p) t)) a)) = rw (part-from t (21 * p)) at e′ in
+      let em : m ≡ takes (boneOf (drop (21 * p) t) .name) = rw (row-bone t p er) at em′ in
+      let e : d′ ≡ sets d (at + 80 * p) (lay (boneItems (boneOf (drop (21 * p) t)) a)) = rw (row-bone t p er) at e′ in
       let b = boneOf (drop (21 * p) t) in
       let x = lay (boneItems b (pointer (base + name) (takes (b .name)))) in
       let k : at + 80 * p + 80 ≡ at + 80 * (p + 1) = omega arith in

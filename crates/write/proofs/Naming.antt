@@ -1,7 +1,8 @@
 -- Names: which the writer takes, the bytes that they take, and how they are stored one behind the other. In order: bytes without
 -- a zero; good names and their sizes; the loop that measures; the loop that stores. Assumes nothing.
 use mathlib.Core.Path.{_≡_, refl, sym, ap, _∙_}
-use mathlib.Core.Bool.{Bool, true, false, not, _&&_}
+use mathlib.Core.Bool.{Bool, true, false, not, _&&_, _||_}
+use mathlib.Core.Logic.{⊎-elim}
 use mathlib.Core.Option.{Option, none, some}
 use mathlib.Core.List.{List, [], _∷_, _++_, flatMap}
 use Prim.Native.Nat.{ℕ, zero, suc, _+_, _-_, _*_, _≤_, _<_}
@@ -10,8 +11,8 @@ use native.Mathlib.Numerals.{add-one}
 use native.Mathlib.Omega.{arith}
 use borrow.Author.Tests.{le-leb, lt-leb, leb-true}
 use lib.Dec.{leb, eqb}
-use lib.ListN.{length, getD, set, take, drop, length-append, length-drop, drop-of-length-le}
-use lib.Seq.{sets, drop-cons, length-take-le}
+use lib.ListN.{length, getD, take, drop, replicate, length-append, length-drop, drop-of-length-le, getD-replicate, List·getD-append}
+use lib.Seq.{sets, drop-cons, length-take-le, getD-append-add}
 use Rattle.format.specs.Result.{Res, refused, done, _>>=_, need}
 use Rattle.format.specs.declared.Refusal.{Refusal}
 use Rattle.format.specs.Section.{Section, Spot, Place, spot, part, orNone, nameBytes}
@@ -19,18 +20,18 @@ use Rattle.format.specs.Bone.{mapName}
 use Rattle.format.specs.Rows.{boneOf, bonesOf}
 use Rattle.format.specs.Layout.{endedName, allNames}
 use Rattle.format.specs.Write.{noZero, goodPart, goodName, goodNames, named}
-use Rattle.fields.proofs.Stores.{sets-append}
 use Rattle.tables.proofs.Outcome.{both-true}
 use Rattle.blocks.specs.Places.{Locates}
 use Rattle.blocks.specs.declared.places.Located.{Located}
 use Rattle.blocks.specs.declared.places.Located.the-variants.{Refused}
 use Rattle.blocks.proofs.Standing.{refused-part}
+use Rattle.blocks.proofs.Search.{le-or-lt}
 use Rattle.bones.specs.Value.{ourPlace}
 use Rattle.format.specs.declared.Place as our
 use Rattle.write.specs.Records.{takes, takesAll, ShortName}
-use Rattle.write.specs.Names.{nameIn, namesResult, NamesRoom}
-use Rattle.write.proofs.Runs.{length-cut, cut-byte, last-cut, Left, left-none, left-more, left-all}
-use Rattle.write.proofs.Bones.{name-none, name-some, part-from, bones-next}
+use Rattle.write.specs.Names.{nameIn, namesResult, chunkMask, StoredTo, NamesRoom}
+use Rattle.write.proofs.Runs.{length-cut, cut-byte, just-stored, Left, left-none, left-past, left-all}
+use Rattle.write.proofs.Bones.{name-none, name-some, row-bone, row-whole, bones-next}
 
 -- ---- bytes without a zero
 
@@ -38,21 +39,24 @@ and-assoc : (a b c : Bool) → (a && b && c) ≡ (a && (b && c))
 and-assoc true b c = refl
 and-assoc false b c = refl
 
-and-both : (a b c : Bool) → (a && b && (a && c)) ≡ (a && (b && c))
-and-both true b c = refl
-and-both false b c = refl
-
 and-true : (a : Bool) → (a && true) ≡ a
 and-true true = refl
 and-true false = refl
 
+or-true : (a : Bool) → (a || true) ≡ true
+or-true true = refl
+or-true false = refl
+
+or-false : (a : Bool) → (a || false) ≡ a
+or-false true = refl
+or-false false = refl
+
 -- the first i bytes are passed, and `good` says whether none of them is zero
 pub record Passed (s : List ℕ) (i : ℕ) (good : Bool) : Type 0 where
-  pub high : i ≤ length s
   pub same : noZero s ≡ (good && noZero (drop i s))
 
 pub passed-none : (s : List ℕ) → Passed s 0 true
-passed-none s = record { high = omega arith; same = refl }
+passed-none s = record { same = refl }
 
 pub passed-more :
     (s : List ℕ) (at k : ℕ) {i : ℕ} {good : Bool} → at + k ≤ length s → Passed (take k (drop at s)) i good → i < k
@@ -63,10 +67,7 @@ passed-more s at k {i} {good} r h l =
     let m : i < length w = rw (length-cut s at k r) l in
     let e : noZero (drop i w) ≡ (not (eqb (getD s (at + i) 0) 0) && noZero (drop (i + 1) w)) =
     rw (drop-cons w i 0 m, cut-byte s at k i l, add-one) in
-    record {
-      high = omega (arith, m);
-      same = h .same ∙ rw e (sym (and-assoc good (not (eqb (getD s (at + i) 0) 0)) (noZero (drop (i + 1) w))));
-    }
+    record { same = h .same ∙ rw e (sym (and-assoc good (not (eqb (getD s (at + i) 0) 0)) (noZero (drop (i + 1) w)))) }
 
 pub passed-all :
     (s : List ℕ) (at k : ℕ) {i : ℕ} {good : Bool} → at + k ≤ length s → Passed (take k (drop at s)) i good → k ≤ i
@@ -76,29 +77,65 @@ passed-all s at k {i} {good} r h l =
     let m : length (take k (drop at s)) ≤ i = rw (length-cut s at k r) l in
     sym (h .same ∙ rw (drop-of-length-le (take k (drop at s)) m) (and-true good))
 
--- bytes begin with their first
-start-good : (k : ℕ) (s : List ℕ) → (noZero (take k s) && noZero s) ≡ noZero s
-unfolding noZero
-start-good zero s = refl
-start-good (suc k) [] = refl
-start-good (suc k) (x ∷ s) =
-    and-both (not (eqb x 0)) (noZero (take k s)) (noZero s) ∙ ap (λ (b : Bool). not (eqb x 0) && b) (start-good k s)
+pub mask-made : {m : List ℕ} → m ≡ sets (replicate 64 1) 0 (replicate 32 0) → m ≡ chunkMask
+unfolding chunkMask
+mask-made e = e
 
--- the first k bytes and those from the j-th on are all
-ends-good : (j k : ℕ) (s : List ℕ) → j ≤ k → (noZero (take k s) && noZero (drop j s)) ≡ noZero s
-unfolding noZero
-ends-good zero k s h = start-good k s
-ends-good (suc j) zero s h = absurd (omega arith)
-ends-good (suc j) (suc k) [] h = refl
-ends-good (suc j) (suc k) (x ∷ s) h =
-    and-assoc (not (eqb x 0)) (noZero (take k s)) (noZero (drop j s))
-    ∙ ap (λ (b : Bool). not (eqb x 0) && b) (ends-good j k s (omega arith))
+pub length-mask : {m : List ℕ} → m ≡ chunkMask → length m ≡ 64
+unfolding chunkMask
+length-mask e = ap length e
 
-pub no-zero-ends :
-    (s : List ℕ) (k : ℕ) {a b : Bool} → k ≤ length s → length s ≤ 2 * k → a ≡ noZero (take k s)
-    → b ≡ noZero (take k (drop (length s - k) s)) → (a && b) ≡ noZero s
-no-zero-ends s k {a} {b} h m e f =
-    rw (e, f, last-cut s k h) (ends-good (length s - k) k s (omega arith))
+-- the mask: zeros over the k bytes, ones behind them
+mask-zero : (k i : ℕ) → k ≤ 32 → i < k → getD chunkMask (32 - k + i) 0 ≡ 0
+unfolding chunkMask
+mask-zero k i h l =
+    let zeros : List ℕ = replicate 32 0 in
+    let ones : List ℕ = replicate 32 1 in
+    let m : 32 - k + i < 32 = omega arith in
+    List·getD-append zeros ones 0 (32 - k + i) m ∙ getD-replicate 32 (32 - k + i) 0 0 m
+
+mask-one : (k i : ℕ) → k ≤ 32 → k ≤ i → i < 32 → getD chunkMask (32 - k + i) 0 ≡ 1
+unfolding chunkMask
+mask-one k i h l b =
+    let zeros : List ℕ = replicate 32 0 in
+    let ones : List ℕ = replicate 32 1 in
+    let m : 32 - k + i ≡ 32 + (i - k) = omega arith in
+    rw m (getD-append-add zeros ones (i - k) 0 ∙ getD-replicate 32 (i - k) 1 0 (omega arith))
+
+-- the loop goes on behind the k bytes, where the mask has ones
+pub near-more :
+    (s : List ℕ) (at k : ℕ) {mask : List ℕ} {i : ℕ} {good : Bool} → at + 32 ≤ length s → k ≤ 32 → mask ≡ chunkMask
+    → Passed (take k (drop at s)) i good → i < 32
+    → Passed (take k (drop at s)) (i + 1)
+    (good && (not (eqb (getD s (at + i) 0) 0) || not (eqb (getD mask (32 - k + i) 0) 0)))
+unfolding noZero
+near-more s at k {mask} {i} {good} r m q h l = ⊎-elim behind within (le-or-lt k i)
+  where
+    w : List ℕ
+    w = take k (drop at s)
+
+    a : Bool
+    a = not (eqb (getD s (at + i) 0) 0)
+
+    behind : k ≤ i → Passed w (i + 1) (good && (a || not (eqb (getD mask (32 - k + i) 0) 0)))
+    behind j =
+        let n : length w ≡ k = length-cut s at k (omega arith) in
+        let e : drop i w ≡ [] = drop-of-length-le w {i = i} (omega (arith, n)) in
+        let f : drop (i + 1) w ≡ [] = drop-of-length-le w {i = i + 1} (omega (arith, n)) in
+        let o : not (eqb (getD mask (32 - k + i) 0) 0) ≡ true = rw (q, mask-one k i m j l) in
+        let g : noZero w ≡ (good && true) = rw e at (h .same) in
+        record { same = rw (o, f, or-true a, and-true good) g }
+
+    within : i < k → Passed w (i + 1) (good && (a || not (eqb (getD mask (32 - k + i) 0) 0)))
+    within j =
+        let o : not (eqb (getD mask (32 - k + i) 0) 0) ≡ false = rw (q, mask-zero k i m j) in
+        rw (o, or-false a) (passed-more s at k (omega arith) h j)
+
+-- after the 32 bytes
+pub near-all :
+    (s : List ℕ) (at k : ℕ) {i : ℕ} {good : Bool} → at + 32 ≤ length s → k ≤ 32 → Passed (take k (drop at s)) i good → 32 ≤ i
+    → good ≡ noZero (take k (drop at s))
+near-all s at k r m h l = passed-all s at k (omega arith) h (omega arith)
 
 -- ---- good names and their sizes
 
@@ -166,10 +203,8 @@ module _ (lent : Section) (w : List ℕ) {p : our.Place} (e : p ≡ ourPlace (bo
   pub good-here :
       (p .address ≡ 0 → ⊥) → p .size ≤ 255 → (o : ℕ) (half : List ℕ) {r : Bool} → part lent (p .address) (p .size) ≡ done (take
       (p .size) (drop o half))
-      → r ≡ noZero (take (o + p .size - o) (drop o half)) → r ≡ goodName lent (boneOf w .name)
-  good-here z h o half q f =
-      let k : o + p .size - o ≡ p .size = omega arith in
-      rw (name-some w e z) (f ∙ rw k (sym (short-good lent (p .address) (p .size) _ h q)))
+      → r ≡ noZero (take (p .size) (drop o half)) → r ≡ goodName lent (boneOf w .name)
+  good-here z h o half q f = rw (name-some w e z) (f ∙ sym (short-good lent (p .address) (p .size) _ h q))
 
 -- ---- the loop that measures
 
@@ -184,34 +219,29 @@ measuring-none lent t n =
     record { high = omega arith; good = simp sub-zero refl; counts = simp (sub-zero, zero-add) refl; small = omega arith }
 
 module _ {lent : Section} {t : List ℕ} {n p total : ℕ} (h : Measuring lent t n p total) where
-  module _ (l : p < n) where
-    abbrev row : List ℕ
-    row = take (length t - 21 * p) (drop (21 * p) t)
-
+  module _ (l : p < n) {row : List ℕ} (er : row ≡ take 21 (drop (21 * p) t)) where
     pub measuring-bad : {g : Bool} → g ≡ goodName lent (boneOf row .name) → g ≡ false → refused 4 ≡ namesResult lent (bonesOf n t)
     unfolding goodNames namesResult
     measuring-bad {g} e f =
-        let b : goodName lent (boneOf (drop (21 * p) t) .name) ≡ false = rw (part-from t (21 * p)) at (sym e ∙ f) in
+        let b : goodName lent (boneOf (drop (21 * p) t) .name) ≡ false = rw (row-bone t p er) at (sym e ∙ f) in
         rw (h .good, bones-next t n p l, b)
 
     module _ {g : Bool} (e : g ≡ goodName lent (boneOf row .name)) (f : g ≡ true) where
       good-row : goodName lent (boneOf (drop (21 * p) t) .name) ≡ true
-      good-row = rw (part-from t (21 * p)) at (sym e ∙ f)
+      good-row = rw (row-bone t p er) at (sym e ∙ f)
 
       pub measuring-short : 21 * n ≤ length t → ShortName row
       measuring-short r =
-          rw (part-from t (21 * p))
-          (record {
-            whole = simp length-drop (omega arith);
-            short = good-takes lent (boneOf (drop (21 * p) t) .name) good-row
-                .1;
-          })
+          record {
+            whole = omega (arith, row-whole t p er (omega (arith, r)));
+            short = rw (row-bone t p er) (good-takes lent (boneOf (drop (21 * p) t) .name) good-row .1);
+          }
 
       pub measuring-more : {m : ℕ} → m ≡ takes (boneOf row .name) → Measuring lent t n (p + 1) (total + m)
       unfolding goodNames takesAll
       measuring-more {m} em′ =
           let nb = bones-next t n p l in
-          let em : m ≡ takes (boneOf (drop (21 * p) t) .name) = rw (part-from t (21 * p)) at em′ in
+          let em : m ≡ takes (boneOf (drop (21 * p) t) .name) = rw (row-bone t p er) at em′ in
           record {
             high = omega arith;
             good = h .good ∙ rw (nb, good-row);
@@ -230,23 +260,32 @@ module _ {lent : Section} {t : List ℕ} {n p total : ℕ} (h : Measuring lent t
 
 -- ---- one name stored
 
-module _ (lent : Section) (w : List ℕ) {p : our.Place} (e : p ≡ ourPlace (boneOf w .name)) where
-  pub stored-none : (d : List ℕ) (at : ℕ) → p .address ≡ 0 → (at ≡ at + length (nameIn lent w)) × (d ≡ sets d at (nameIn lent w))
+module _ (lent : Section) (w : List ℕ) {p : our.Place} (e : p ≡ ourPlace (boneOf w .name)) (at limit : ℕ)
+    (room : at + length (nameIn lent w) ≤ limit) where
+  pub stored-none :
+      (d : List ℕ) → p .address ≡ 0 → (at ≡ at + length (nameIn lent w)) × StoredTo limit d at (nameIn lent w) d
   unfolding endedName
-  stored-none d at z = rw (name-none w e z) (sym (add-zero at), refl)
+  stored-none d z =
+      let n : nameIn lent w ≡ [] = rw (name-none w e z) in
+      let l : length (nameIn lent w) ≡ 0 = rw n in
+      (omega (arith, l), just-stored limit d at (nameIn lent w) room (rw n))
 
-  module _ (z : p .address ≡ 0 → ⊥) {x : List ℕ} (q : x ≡ orNone (part lent (p .address) (p .size))) where
-    name-is : nameIn lent w ≡ x ++ (0 ∷ [])
+  module _ (z : p .address ≡ 0 → ⊥) (half : List ℕ) (o k : ℕ) (stand : o + k ≤ length half)
+      (q : orNone (part lent (p .address) (p .size)) ≡ take k (drop o half)) where
+    name-is : nameIn lent w ≡ take k (drop o half) ++ 0 ∷ []
     unfolding endedName nameBytes
     name-is = rw (name-some w e z, q)
 
-    pub length-name : length (nameIn lent w) ≡ length x + 1
-    length-name = ap length name-is ∙ length-append x (0 ∷ [])
+    length-name : length (nameIn lent w) ≡ k + 1
+    length-name = ap length name-is ∙ length-append (take k (drop o half)) (0 ∷ []) ∙ rw (length-cut half o k stand)
+
+    pub room-some : at + k + 1 ≤ limit
+    room-some = omega (arith, room, length-name)
 
     pub stored-some :
-        (d : List ℕ) (at : ℕ) {d′ : List ℕ} → d′ ≡ sets d at x
-        → (at + length x + 1 ≡ at + length (nameIn lent w)) × (set d′ (at + length x) 0 ≡ sets d at (nameIn lent w))
-    stored-some d at f = (omega (arith, length-name), rw (f, name-is) (sym (sets-append x (0 ∷ []) d at)))
+        {d d′ : List ℕ} {r : ℕ} → r ≡ at + k + 1 → StoredTo limit d at (take k (drop o half) ++ 0 ∷ []) d′
+        → (r ≡ at + length (nameIn lent w)) × StoredTo limit d at (nameIn lent w) d′
+    stored-some f h = (omega (arith, f, length-name), rw name-is h)
 
 -- ---- the loop that stores
 
@@ -260,28 +299,31 @@ naming-none lent t n d at = record { high = omega arith; left = simp sub-zero (l
 
 module _ {lent : Section} {t : List ℕ} {n : ℕ} {d₀ : List ℕ} {at : ℕ} {d : List ℕ} {p to : ℕ} (h : Naming lent t n d₀ at d p to)
     (l : p < n) where
-  abbrev nameRow : List ℕ
-  nameRow = take (length t - 21 * p) (drop (21 * p) t)
-
   left-names :
       Left d₀ at (allNames (named lent (bonesOf n t))) d to
       (nameIn lent (drop (21 * p) t) ++ allNames (named lent (bonesOf (n - (p + 1)) (drop (21 * (p + 1)) t))))
   unfolding allNames flatMap
   left-names = rw (bones-next t n p l) at (h .left)
 
-  pub naming-room : NamesRoom lent t n at (length d₀) → to + length (nameIn lent nameRow) ≤ length d
-  naming-room r =
-      let b = allNames (named lent (bonesOf (n - (p + 1)) (drop (21 * (p + 1)) t))) in
-      rw (part-from t (21 * p))
-      (omega (arith, r .room, left-names .ends, left-names .same, length-append (nameIn lent (drop (21 * p) t)) b))
+  module _ {end : ℕ} (r : NamesRoom lent t n at end (length d₀)) {row : List ℕ} (er : row ≡ take 21 (drop (21 * p) t)) where
+    row-name : nameIn lent row ≡ nameIn lent (drop (21 * p) t)
+    row-name = rw (row-bone t p er)
 
-  pub naming-more :
-      {d′ : List ℕ} {to′ : ℕ} → to′ ≡ to + length (nameIn lent nameRow) → d′ ≡ sets d to (nameIn lent nameRow)
-      → Naming lent t n d₀ at d′ (p + 1) to′
-  naming-more {d′} {to′} et e =
-      let f : d′ ≡ sets d to (nameIn lent (drop (21 * p) t)) = rw (part-from t (21 * p)) at e in
-      let k : to′ ≡ to + length (nameIn lent (drop (21 * p) t)) = rw (part-from t (21 * p)) at et in
-      record { high = omega arith; left = rw k (left-more (nameIn lent (drop (21 * p) t)) _ left-names f) }
+    pub naming-room : (to + length (nameIn lent row) ≤ end) × (end ≤ length d)
+    naming-room =
+        let b = allNames (named lent (bonesOf (n - (p + 1)) (drop (21 * (p + 1)) t))) in (
+          rw row-name
+              (omega (arith, r .ends, left-names .ends, length-append (nameIn lent (drop (21 * p) t)) b)),
+          omega (arith, r .room, left-names .same),
+        )
+
+    pub naming-more :
+        {d′ : List ℕ} {to′ : ℕ} → to′ ≡ to + length (nameIn lent row) → StoredTo end d to (nameIn lent row) d′
+        → Naming lent t n d₀ at d′ (p + 1) to′
+    naming-more {d′} {to′} et e =
+        let f : StoredTo end d to (nameIn lent (drop (21 * p) t)) d′ = rw row-name at e in
+        let k : to′ ≡ to + length (nameIn lent (drop (21 * p) t)) = rw row-name at et in
+        record { high = omega arith; left = rw k (left-past (nameIn lent (drop (21 * p) t)) _ left-names (rw (← r .ends) at f)) }
 
 pub naming-all :
     {lent : Section} {t : List ℕ} {n : ℕ} {d₀ : List ℕ} {at : ℕ} {d : List ℕ} {p to : ℕ} → Naming lent t n d₀ at d p to → n ≤ p

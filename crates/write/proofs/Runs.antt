@@ -1,19 +1,20 @@
 -- Bytes stored one behind the other: what is left to store gives the whole. In order: stores that do not meet, and those that
--- overlap; bytes as they are; what is left; words of k bytes and zeros, as the loops store them; a part with its fill. Assumes
--- nothing.
+-- overlap; bytes as they are; bytes stored up to a limit; what is left; words of k bytes and zeros, as the loops store them; a part
+-- with its fill. Assumes nothing.
 use mathlib.Core.Path.{_≡_, refl, sym, ap, _∙_}
-use mathlib.Core.List.{List, [], _∷_, _++_, append-nil}
+use mathlib.Core.List.{List, [], _∷_, _++_, append-nil, append-assoc}
 use Prim.Native.Nat.{ℕ, zero, suc, _+_, _-_, _*_, _≤_, _<_}
 use native.Mathlib.Nat.{add-zero, sub-zero, mul-zero, mul-suc, add-assoc}
 use native.Mathlib.Numerals.{add-one}
 use native.Mathlib.Omega.{arith}
-use lib.ListN.{length, getD, take, drop, set, replicate, length-append, length-take, length-drop, drop-of-length-le}
-use lib.Seq.{sets, length-sets, drop-cons, set-set, set-comm, take-all, length-take-le, getD-take, getD-drop}
+use lib.ListN.{length, getD, take, drop, set, replicate, length-append, length-drop, take-append-drop, drop-of-length-le}
+use lib.Seq.{sets, length-sets, drop-cons, set-set, set-comm, take-take, length-take-le, getD-take, getD-drop}
 use Rattle.format.specs.Field.{bytes, wordBytes}
 use Rattle.format.specs.Layout.{fill, pad16}
 use Rattle.format.proofs.Fields.{length-bytes}
 use Rattle.fields.proofs.Stores.{sets-append, part-sets-same}
 use Rattle.bones.proofs.Words.{Pasted, pasted-more, pasted-all}
+use Rattle.write.specs.Names.{StoredTo}
 
 -- ---- stores that do not meet
 
@@ -32,23 +33,19 @@ sets-swap (x ∷ a) b s i j h =
 
 -- ---- stores that overlap
 
--- a run of stores over a shorter one
-sets-over : (a b s : List ℕ) (i : ℕ) → length a ≤ length b → sets (sets s i a) i b ≡ sets s i b
-sets-over [] b s i h = refl
-sets-over (x ∷ a) [] s i h = absurd (omega arith)
-sets-over (x ∷ a) (y ∷ b) s i h =
+-- a run of stores over another: of this only what reaches farther is left
+sets-onto : (a b s : List ℕ) (i : ℕ) → sets (sets s i a) i b ≡ sets s i (b ++ drop (length b) a)
+sets-onto a [] s i = refl
+sets-onto [] (y ∷ b) s i = ap (λ (l : List ℕ). sets s i (y ∷ l)) (sym (append-nil b))
+sets-onto (x ∷ a) (y ∷ b) s i =
     ap (λ (l : List ℕ). sets l (suc i) b)
     (sym (set-past a (set s i x) i (suc i) y (omega arith)) ∙ ap (λ (l : List ℕ). sets l (suc i) a) (set-set s i x y))
-    ∙ sets-over a b (set s i y) (suc i) (omega arith)
+    ∙ sets-onto a b (set s i y) (suc i)
 
--- the first k bytes and those from the j-th on are all
-sets-ends : (j k : ℕ) (x s : List ℕ) (i : ℕ) → j ≤ k → sets (sets s i (take k x)) (i + j) (drop j x) ≡ sets s i x
-sets-ends zero k x s i h = simp add-zero (sets-over (take k x) x s i (simp length-take (omega arith)))
-sets-ends (suc j) zero x s i h = absurd (omega arith)
-sets-ends (suc j) (suc k) [] s i h = refl
-sets-ends (suc j) (suc k) (y ∷ x) s i h =
-    let e : i + suc j ≡ suc i + j = omega arith in
-    rw e (sets-ends j k x (set s i y) (suc i) (omega arith))
+sets-over : (a b s : List ℕ) (i : ℕ) → length a ≤ length b → sets (sets s i a) i b ≡ sets s i b
+sets-over a b s i h =
+    let e : b ++ drop (length b) a ≡ b = rw (drop-of-length-le a h) (append-nil b) in
+    sets-onto a b s i ∙ ap (sets s i) e
 
 -- ---- bytes as they are: k of s, from a place on
 
@@ -80,15 +77,45 @@ module _ (s : List ℕ) (from k : ℕ) where
       let q : take k b ≡ take k (drop from s) = rw e (rw n at g) in
       f ∙ rw q
 
--- the last k
-pub last-cut : (s : List ℕ) (k : ℕ) → k ≤ length s → take k (drop (length s - k) s) ≡ drop (length s - k) s
-last-cut s k h = take-all k (drop (length s - k) s) (simp length-drop (omega arith))
+-- ---- bytes stored, and perhaps others behind them, up to a limit
 
-pub stored-ends :
-    (s : List ℕ) (k : ℕ) (d : List ℕ) (at : ℕ) {d′ d″ : List ℕ} → k ≤ length s → length s ≤ 2 * k → d′ ≡ sets d at (take k s)
-    → d″ ≡ sets d′ (at + (length s - k)) (take k (drop (length s - k) s)) → d″ ≡ sets d at s
-stored-ends s k d at {d′} {d″} h m e f =
-    f ∙ rw (e, last-cut s k h) (sets-ends (length s - k) k s d at (omega arith))
+module _ (limit : ℕ) (d : List ℕ) (at : ℕ) where
+  pub just-stored : (x : List ℕ) {d′ : List ℕ} → at + length x ≤ limit → d′ ≡ sets d at x → StoredTo limit d at x d′
+  just-stored x r e = record { more = []; room = omega (arith, r); is = e ∙ ap (sets d at) (sym (append-nil x)) }
+
+  module _ (s : List ℕ) (from k : ℕ) where
+    -- more bytes than the k
+    pub more-stored :
+        (j : ℕ) {d′ : List ℕ} → k ≤ j → from + j ≤ length s → at + j ≤ limit → d′ ≡ sets d at (take j (drop from s))
+        → StoredTo limit d at (take k (drop from s)) d′
+    more-stored j h m r e =
+        let w = take j (drop from s) in
+        let t : take k w ≡ take k (drop from s) = take-take k j (drop from s) h in
+        let c : w ≡ take k (drop from s) ++ drop k w = rw (← t) (sym (take-append-drop k w)) in
+        let l : length (take k (drop from s)) ≡ k = length-cut s from k (omega arith) in
+        record {
+          more = drop k w;
+          room = omega (arith, r, h, l, length-drop k w, length-cut s from j m);
+          is = e ∙ ap (sets d at) c;
+        }
+
+    -- a zero behind the k bytes
+    pub ended-stored :
+        {d′ : List ℕ} → from + k ≤ length s → at + k + 1 ≤ limit → StoredTo limit d at (take k (drop from s)) d′
+        → StoredTo limit d at (take k (drop from s) ++ 0 ∷ []) (set d′ (at + k) 0)
+    ended-stored {d′} m r h =
+        let x = take k (drop from s) in
+        let l : length x ≡ k = length-cut s from k m in
+        let y : List ℕ = 0 ∷ [] in
+        let e : set d′ (at + k) 0 ≡ sets (sets (sets d at x) (at + length x) (h .more)) (at + length x) y =
+        rw (h .is, sets-append x (h .more) d at, l) in
+        record {
+          more = drop 1 (h .more);
+          room = omega (arith, r, l, h .room, length-append x y, length-drop 1 (h .more));
+          is =
+              e ∙ sets-onto (h .more) y (sets d at x) (at + length x) ∙ sym (sets-append x (y ++ drop 1 (h .more)) d at)
+              ∙ ap (sets d at) (sym (append-assoc x y (drop 1 (h .more))));
+        }
 
 -- ---- what is left
 
@@ -113,6 +140,21 @@ left-more {d₀} {whole} {d} {d′} {at} {to} x rest h e =
       same = ap length e ∙ length-sets d to x ∙ h .same;
       is = ap (λ (l : List ℕ). sets l (to + length x) rest) e ∙ sym (sets-append x rest d to) ∙ h .is;
       ends = omega (arith, h .ends, length-append x rest);
+    }
+
+-- the same, where others of the rest may have been stored over
+pub left-past :
+    {d₀ whole d d′ : List ℕ} {at to : ℕ} (x rest : List ℕ) → Left d₀ at whole d to (x ++ rest)
+    → StoredTo (at + length whole) d to x d′ → Left d₀ at whole d′ (to + length x) rest
+left-past {d₀} {whole} {d} {d′} {at} {to} x rest h e =
+    let n = length-append x rest in
+    let m : length (e .more) ≤ length rest = omega (arith, e .room, h .ends, n) in
+    record {
+      same = ap length (e .is) ∙ length-sets d to (x ++ e .more) ∙ h .same;
+      is =
+          ap (λ (l : List ℕ). sets l (to + length x) rest) (e .is ∙ sets-append x (e .more) d to)
+          ∙ sets-over (e .more) rest (sets d to x) (to + length x) m ∙ sym (sets-append x rest d to) ∙ h .is;
+      ends = omega (arith, h .ends, n);
     }
 
 -- ---- words of k bytes

@@ -1,7 +1,9 @@
 -- Names as the rows and the lent halves give them: what the writer stores, and what it answers of them. Definitions only.
+use mathlib.Core.Path.{_≡_}
 use Prim.Native.Nat.{ℕ, _+_, _*_, _≤_}
-use mathlib.Core.List.{List}
-use lib.ListN.{length}
+use mathlib.Core.List.{List, _++_}
+use lib.ListN.{length, replicate}
+use lib.Seq.{sets}
 use Rattle.format.specs.Result.{Res, refused, done, need, _>>=_}
 use Rattle.format.specs.Section.{Section, Place, nameBytes}
 use Rattle.format.specs.Bone.{Bone, mapName}
@@ -31,7 +33,19 @@ pub record RowsHere (t : List ℕ) (n : ℕ) : Type 0 where
   pub rows : 21 * n ≤ length t
   pub few : n ≤ 65535
 
-pub record NamesRoom (lent : Section) (t : List ℕ) (n at size : ℕ) : Type 0 where
+-- the names of n rows reach from `at` up to `end`, in a buffer of `size` bytes
+pub record NamesRoom (lent : Section) (t : List ℕ) (n at end size : ℕ) : Type 0 where
   pub rows : 21 * n ≤ length t
   pub few : n ≤ 65535
-  pub room : at + length (allNames (named lent (bonesOf n t))) ≤ size
+  pub ends : at + length (allNames (named lent (bonesOf n t))) ≡ end
+  pub room : end ≤ size
+
+-- x stored from `at` on, and perhaps others behind it, up to `limit`
+pub record StoredTo (limit : ℕ) (d₀ : List ℕ) (at : ℕ) (x d : List ℕ) : Type 0 where
+  pub more : List ℕ
+  pub room : at + length x + length more ≤ limit
+  pub is : d ≡ sets d₀ at (x ++ more)
+
+-- 32 zeros, then 32 ones
+unfoldable pub chunkMask : List ℕ
+chunkMask = replicate 32 0 ++ replicate 32 1

@@ -1,7 +1,7 @@
 // The bones block: its count, then the bones' records of 80 bytes, each one array of words (document 01, "Records").
 ghost use mathlib.Core.Path.{_≡_};
 ghost use Prim.Native.Nat.{_+_, _*_, _≤_};
-ghost use lib.ListN.{length, drop};
+ghost use lib.ListN.{length, take, drop};
 ghost use lib.Seq.{sets};
 ghost use Rattle.format.specs.Field.{lay};
 ghost use Rattle.format.specs.Layout.{base, boneItems, pad16};
@@ -11,6 +11,16 @@ use crate::starts::pointer;
 use crate::words::put_words;
 use bones::BONE_WORDS;
 use bones::name_at;
+
+// Row p of a table, its 21 words and no others, so that no reader tests for bounds.
+pub(crate) fn row_in<'a>(t: &'a [u32], p: usize) -> &'a [u32]
+    requires { ⌜ 21 * p + 21 ≤ length (now t) ⌝ }
+    ensures part { λ r. ⌜ now r ≡ take 21 (drop (21 * p) (now (t .entry))) ⌝ }
+{
+    let start = BONE_WORDS * p;
+    let end = start + BONE_WORDS;
+    &t[start..end]
+}
 
 // The bytes that a row's name takes, its zero among them: none for no name.
 pub(crate) fn name_bytes(row: &[u32]) -> usize
@@ -72,8 +82,7 @@ fn put_bones(d: &mut [u8], at: usize, names: usize, bones: &[u32], n: usize)
     let mut p = 0;
     let mut name = names;
     while p < n {
-        let start = BONE_WORDS * p;
-        let row = &bones[start..];
+        let row = row_in(bones, p);
         let size = name_bytes(row);
         put_bone(d, at + format::BONE_SIZE * p, row, pointer(name, size));
         name += size;

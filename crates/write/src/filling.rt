@@ -60,8 +60,9 @@ fn put_names_part<'a>(
         let lent = section (now (sys .entry)) (now (gfx .entry)) in
         ⌜ now (d .exit) ≡ sets (now (d .entry)) at (pad16 (allNames (named lent (bonesOf n (now (bones .entry)))))) ⌝ }
 {
-    put_names(d, at, bones, n, sys, gfx);
-    put_zeros(d, at + size, fill(size));
+    let end = at + size;
+    put_names(d, at, end, bones, n, sys, gfx);
+    put_zeros(d, end, fill(size));
 }
 
 // Stores the bones block and the names.

@@ -2,19 +2,21 @@
 // the other, each ended by a zero").
 ghost use mathlib.Core.Path.{_≡_};
 ghost use Prim.Native.Nat.{_+_, _*_, _≤_};
+ghost use mathlib.Core.List.{_++_, _∷_, []};
 ghost use lib.ListN.{length, take, drop};
 ghost use lib.Seq.{sets};
 ghost use Rattle.format.specs.Rows.{boneOf, bonesOf};
 ghost use Rattle.format.specs.Layout.{allNames};
 ghost use Rattle.format.specs.Write.{noZero, goodName, named};
 ghost use Rattle.blocks.specs.Places.{section};
-ghost use Rattle.write.specs.Names.{nameIn, measuredOf, namesResult, RowsHere, NamesRoom};
+ghost use Rattle.write.specs.Names.{nameIn, measuredOf, namesResult, chunkMask, StoredTo, RowsHere, NamesRoom};
 use crate::block::name_bytes;
-use crate::words::put_bytes;
+use crate::block::row_in;
+use crate::words::CHUNK;
+use crate::words::put_at_least;
+use crate::words::put_zeros;
 use blocks::places::Located;
 use blocks::places::locate;
-use blocks::places::slice;
-use bones::BONE_WORDS;
 use bones::name_at;
 
 // What the names come to.
@@ -39,33 +41,35 @@ fn no_zero_run(s: &[u8], at: usize, k: usize) -> bool
     good
 }
 
-// Whether no byte is zero, by the first k bytes and the last k.
-fn no_zero_ends(s: &[u8], k: usize) -> bool
-    requires { ⌜ (k ≤ length (now s)) × (length (now s) ≤ 2 * k) ⌝ }
-    ensures answer { λ r. ⌜ r ≡ noZero (now (s .entry)) ⌝ }
+// The same for up to 32 bytes, where 32 stand: the mask has ones over those behind the k bytes. No branch depends on k.
+fn no_zero_near(s: &[u8], at: usize, k: usize, mask: &[u8]) -> bool
+    requires { ⌜ (at + 32 ≤ length (now s)) × (k ≤ 32) × (now mask ≡ chunkMask) ⌝ }
+    ensures answer { λ r. ⌜ r ≡ noZero (take k (drop at (now (s .entry)))) ⌝ }
 {
-    no_zero_run(s, 0, k) & no_zero_run(s, s.len() - k, k)
+    let start = CHUNK - k;
+    let mut good = true;
+    let mut i = 0;
+    while i < CHUNK {
+        good = good & ((s[at + i] != 0) | (mask[start + i] != 0));
+        i += 1;
+    }
+    good
 }
 
-// Whether no byte is zero. Names have mostly 4 to 32 bytes: these are tested without a loop.
-fn no_zero(s: &[u8]) -> bool
-    ensures answer { λ r. ⌜ r ≡ noZero (now (s .entry)) ⌝ }
+// The same for any k.
+fn no_zero(s: &[u8], at: usize, k: usize, mask: &[u8]) -> bool
+    requires { ⌜ (at + k ≤ length (now s)) × (now mask ≡ chunkMask) ⌝ }
+    ensures answer { λ r. ⌜ r ≡ noZero (take k (drop at (now (s .entry)))) ⌝ }
 {
-    let n = s.len();
-    if n < 4 || n > 32 {
-        return no_zero_run(s, 0, n);
+    if k <= CHUNK && s.len() - at >= CHUNK {
+        return no_zero_near(s, at, k, mask);
     }
-    if n < 8 {
-        return no_zero_ends(s, 4);
-    }
-    if n < 16 {
-        return no_zero_ends(s, 8);
-    }
-    no_zero_ends(s, 16)
+    no_zero_run(s, at, k)
 }
 
 // Whether the writer takes the name of a row: no name is good.
-fn good_name(row: &[u32], sys: &[u8], gfx: &[u8]) -> bool
+fn good_name(row: &[u32], sys: &[u8], gfx: &[u8], mask: &[u8]) -> bool
+    requires { ⌜ now mask ≡ chunkMask ⌝ }
     ensures answer { λ r. ⌜ r ≡ goodName (section (now (sys .entry)) (now (gfx .entry))) (boneOf (now (row .entry)) .name) ⌝ }
 {
     let place = name_at(row, 0);
@@ -77,21 +81,15 @@ fn good_name(row: &[u32], sys: &[u8], gfx: &[u8]) -> bool
         return false;
     }
     match locate(sys, gfx, place.address, size) {
-        Located::System(o) => {
-            let e = o + size;
-            no_zero(&sys[o..e])
-        }
-        Located::Graphics(o) => {
-            let e = o + size;
-            no_zero(&gfx[o..e])
-        }
+        Located::System(o) => no_zero(sys, o, size, mask),
+        Located::Graphics(o) => no_zero(gfx, o, size, mask),
         Located::Refused(_) => false,
     }
 }
 
 // Whether the names of the first n bones are good, and the bytes that they take.
-pub(crate) fn measure_names(bones: &[u32], n: usize, sys: &[u8], gfx: &[u8]) -> Measured
-    requires { ⌜ RowsHere (now bones) n ⌝ }
+fn measure_by(bones: &[u32], n: usize, sys: &[u8], gfx: &[u8], mask: &[u8]) -> Measured
+    requires { ⌜ RowsHere (now bones) n × (now mask ≡ chunkMask) ⌝ }
     ensures answer { λ r.
         let lent = section (now (sys .entry)) (now (gfx .entry)) in
         ⌜ measuredOf r ≡ namesResult lent (bonesOf n (now (bones .entry))) ⌝ }
@@ -99,9 +97,8 @@ pub(crate) fn measure_names(bones: &[u32], n: usize, sys: &[u8], gfx: &[u8]) -> 
     let mut p = 0;
     let mut total = 0;
     while p < n {
-        let start = BONE_WORDS * p;
-        let row = &bones[start..];
-        if !good_name(row, sys, gfx) {
+        let row = row_in(bones, p);
+        if !good_name(row, sys, gfx, mask) {
             return Measured::Bad;
         }
         total += name_bytes(row);
@@ -110,35 +107,63 @@ pub(crate) fn measure_names(bones: &[u32], n: usize, sys: &[u8], gfx: &[u8]) -> 
     Measured::Bytes(total)
 }
 
-// Stores the name of a row and its zero, or nothing for no name; gives where it ends.
-fn put_name<'a>(d: &mut [u8], at: usize, row: &[u32], sys: &'a [u8], gfx: &'a [u8]) -> usize
-    requires { ⌜ at + length (nameIn (section (now sys) (now gfx)) (now row)) ≤ length (now d) ⌝ }
+// The same; the mask is made once.
+pub(crate) fn measure_names(bones: &[u32], n: usize, sys: &[u8], gfx: &[u8]) -> Measured
+    requires { ⌜ RowsHere (now bones) n ⌝ }
+    ensures answer { λ r.
+        let lent = section (now (sys .entry)) (now (gfx .entry)) in
+        ⌜ measuredOf r ≡ namesResult lent (bonesOf n (now (bones .entry))) ⌝ }
+{
+    let mut mask = [1u8; 64];
+    put_zeros(&mut mask, 0, CHUNK);
+    measure_by(bones, n, sys, gfx, &mask)
+}
+
+// Stores the k bytes of s from `from` on and a zero; gives where they end.
+fn put_ended(d: &mut [u8], at: usize, limit: usize, s: &[u8], from: usize, k: usize) -> usize
+    requires { ⌜ (from + k ≤ length (now s)) × (at + k + 1 ≤ limit) × (limit ≤ length (now d)) ⌝ }
+    ensures end { λ r. ⌜ r ≡ at + k + 1 ⌝ }
+    ensures bytes { λ _. ⌜ StoredTo limit (now (d .entry)) at (take k (drop from (now (s .entry))) ++ 0 ∷ []) (now (d .exit)) ⌝ }
+{
+    put_at_least(d, at, limit, s, from, k);
+    let end = at + k;
+    d[end] = 0;
+    end + 1
+}
+
+// Stores the name of a row and its zero, or nothing for no name; gives where it ends. The buffer may change up to `limit`.
+fn put_name(d: &mut [u8], at: usize, limit: usize, row: &[u32], sys: &[u8], gfx: &[u8]) -> usize
+    requires { ⌜
+        (at + length (nameIn (section (now sys) (now gfx)) (now row)) ≤ limit) × (limit ≤ length (now d))
+        ⌝ }
     ensures end { λ r. ⌜ r ≡ at + length (nameIn (section (now (sys .entry)) (now (gfx .entry))) (now (row .entry))) ⌝ }
     ensures bytes { λ _.
         let lent = section (now (sys .entry)) (now (gfx .entry)) in
-        ⌜ now (d .exit) ≡ sets (now (d .entry)) at (nameIn lent (now (row .entry))) ⌝ }
+        ⌜ StoredTo limit (now (d .entry)) at (nameIn lent (now (row .entry))) (now (d .exit)) ⌝ }
 {
     let place = name_at(row, 0);
     if place.address == 0 {
         return at;
     }
-    let s = slice(sys, gfx, place.address, place.size as usize);
-    put_bytes(d, at, s);
-    let end = at + s.len();
-    d[end] = 0;
-    end + 1
+    let size = place.size as usize;
+    match locate(sys, gfx, place.address, size) {
+        Located::System(o) => put_ended(d, at, limit, sys, o, size),
+        Located::Graphics(o) => put_ended(d, at, limit, gfx, o, size),
+        Located::Refused(_) => put_ended(d, at, limit, sys, 0, 0),
+    }
 }
 
-// Stores the names of the first n bones.
-pub(crate) fn put_names<'a>(
+// Stores the names of the first n bones, which reach up to `end`.
+pub(crate) fn put_names(
     d: &mut [u8],
     at: usize,
+    end: usize,
     bones: &[u32],
     n: usize,
-    sys: &'a [u8],
-    gfx: &'a [u8],
+    sys: &[u8],
+    gfx: &[u8],
 )
-    requires { ⌜ NamesRoom (section (now sys) (now gfx)) (now bones) n at (length (now d)) ⌝ }
+    requires { ⌜ NamesRoom (section (now sys) (now gfx)) (now bones) n at end (length (now d)) ⌝ }
     ensures bytes { λ _.
         let lent = section (now (sys .entry)) (now (gfx .entry)) in
         ⌜ now (d .exit) ≡ sets (now (d .entry)) at (allNames (named lent (bonesOf n (now (bones .entry))))) ⌝ }
@@ -146,9 +171,8 @@ pub(crate) fn put_names<'a>(
     let mut p = 0;
     let mut to = at;
     while p < n {
-        let start = BONE_WORDS * p;
-        let row = &bones[start..];
-        to = put_name(d, to, row, sys, gfx);
+        let row = row_in(bones, p);
+        to = put_name(d, to, end, row, sys, gfx);
         p += 1;
     }
 }

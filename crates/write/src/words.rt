@@ -4,6 +4,10 @@ ghost use Prim.Native.Nat.{_+_, _*_, _≤_};
 ghost use lib.ListN.{length, take, drop, replicate};
 ghost use lib.Seq.{sets};
 ghost use Rattle.format.specs.Field.{bytes, wordBytes};
+ghost use Rattle.write.specs.Names.{StoredTo};
+
+// Names are mostly shorter: so many bytes are tested or stored at once.
+pub(crate) const CHUNK: usize = 32;
 
 // One word.
 fn put_word(d: &mut [u8], at: usize, w: u32)
@@ -67,45 +71,26 @@ fn put_run(d: &mut [u8], at: usize, s: &[u8], from: usize, k: usize)
     }
 }
 
-// The same by a copy, which cannot overlap the buffer, so that 4, 8 or 16 bytes are loaded and stored at once.
-fn put_few(d: &mut [u8], at: usize, s: &[u8], from: usize, k: usize)
-    requires { ⌜ (from + k ≤ length (now s)) × (at + k ≤ length (now d)) × (k ≤ 16) ⌝ }
-    ensures bytes { λ _. ⌜ now (d .exit) ≡ sets (now (d .entry)) at (take k (drop from (now (s .entry)))) ⌝ }
+// The same by a copy, which cannot overlap the buffer, so that the 32 bytes are loaded and stored by two of 16.
+fn put_chunk(d: &mut [u8], at: usize, s: &[u8], from: usize)
+    requires { ⌜ (from + 32 ≤ length (now s)) × (at + 32 ≤ length (now d)) ⌝ }
+    ensures bytes { λ _. ⌜ now (d .exit) ≡ sets (now (d .entry)) at (take 32 (drop from (now (s .entry)))) ⌝ }
 {
-    let mut b = [0u8; 16];
-    put_run(&mut b, 0, s, from, k);
-    put_run(d, at, &b, 0, k);
+    let mut b = [0u8; 32];
+    put_run(&mut b, 0, s, from, CHUNK);
+    put_run(d, at, &b, 0, CHUNK);
 }
 
-// Bytes as they are, by the first k and the last k.
-fn put_ends(d: &mut [u8], at: usize, s: &[u8], k: usize)
-    requires { ⌜ (k ≤ length (now s)) × (length (now s) ≤ 2 * k) × (k ≤ 16) × (at + length (now s) ≤ length (now d)) ⌝ }
-    ensures bytes { λ _. ⌜ now (d .exit) ≡ sets (now (d .entry)) at (now (s .entry)) ⌝ }
+// At least the k bytes: the buffer may change up to `limit`. Where there are 32 on both sides, 32 are stored, whatever k is.
+pub(crate) fn put_at_least(d: &mut [u8], at: usize, limit: usize, s: &[u8], from: usize, k: usize)
+    requires { ⌜ (from + k ≤ length (now s)) × (at + k ≤ limit) × (limit ≤ length (now d)) ⌝ }
+    ensures bytes { λ _. ⌜ StoredTo limit (now (d .entry)) at (take k (drop from (now (s .entry)))) (now (d .exit)) ⌝ }
 {
-    let last = s.len() - k;
-    put_few(d, at, s, 0, k);
-    put_few(d, at + last, s, last, k);
-}
-
-// Bytes as they are. Names have mostly 4 to 32 bytes: these are stored without a loop.
-pub(crate) fn put_bytes(d: &mut [u8], at: usize, s: &[u8])
-    requires { ⌜ at + length (now s) ≤ length (now d) ⌝ }
-    ensures bytes { λ _. ⌜ now (d .exit) ≡ sets (now (d .entry)) at (now (s .entry)) ⌝ }
-{
-    let n = s.len();
-    if n < 4 || n > 32 {
-        put_run(d, at, s, 0, n);
+    if k <= CHUNK && s.len() - from >= CHUNK && limit - at >= CHUNK {
+        put_chunk(d, at, s, from);
         return;
     }
-    if n < 8 {
-        put_ends(d, at, s, 4);
-        return;
-    }
-    if n < 16 {
-        put_ends(d, at, s, 8);
-        return;
-    }
-    put_ends(d, at, s, 16);
+    put_run(d, at, s, from, k);
 }
 
 // n zero bytes.

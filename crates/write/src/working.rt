@@ -19,7 +19,7 @@ pub enum Derived {
     Refused(Refusal),
 }
 
-// Derives all tables of the first n bones.
+// Derives all tables of the first n bones. The chains come last: they are stored first, while their entries are in the cache.
 pub(crate) fn derive_tables(
     bones: &[u32],
     n: usize,
@@ -41,15 +41,16 @@ pub(crate) fn derive_tables(
         (now (parents .exit)) (now (children .exit)) (now (pending .exit)))
         ⌝ }
 {
-    if let Tagged::Refused(r) = build_bone_tags(bones, n, buckets, entries) {
-        return Derived::Refused(r);
-    }
     if let Transformed::Refused(r) = build_transformations(bones, n, inverse, local) {
         return Derived::Refused(r);
     }
-    match build_indices(bones, n, parents, children, pending) {
-        Indexed::Refused(r) => Derived::Refused(r),
-        Indexed::Done(k) => Derived::Children(k),
+    let count = match build_indices(bones, n, parents, children, pending) {
+        Indexed::Done(k) => k,
+        Indexed::Refused(r) => return Derived::Refused(r),
+    };
+    match build_bone_tags(bones, n, buckets, entries) {
+        Tagged::Refused(r) => Derived::Refused(r),
+        Tagged::Done(_) => Derived::Children(count),
     }
 }
 

@@ -15,24 +15,12 @@ abbrev μ-loop : tie.MeasureT-loop
 loop-holds : tie.Need-loop-holds Inv-loop μ-loop
 loop-holds c = boning-none _ _ _ _ _
 
-mul-start : tie.Need-mul-start Inv-loop μ-loop
-mul-start c = search needs
-
-mul-row : tie.Need-mul-row Inv-loop μ-loop
-mul-row c = search needs
-
-sub-row : tie.Need-sub-row Inv-loop μ-loop
-sub-row c = search needs
-
-part-row-start : tie.Need-part-row-start Inv-loop μ-loop
-part-row-start c = search needs
-
-part-row-end : tie.Need-part-row-end Inv-loop μ-loop
-part-row-end c = search needs
+row-in-requires : tie.Need-row-in-requires Inv-loop μ-loop
+row-in-requires c κs = search needs
 
 name-bytes-requires : tie.Need-name-bytes-requires Inv-loop μ-loop
 name-bytes-requires c κs = boning-short (c .before .before .before .before .before .pre) (c .before .before .loop .inv) (c
-    .before .loop-test .taken)
+    .before .loop-test .taken) (c .row-in .ensures)
 
 mul-put-bone : tie.Need-mul-put-bone Inv-loop μ-loop
 mul-put-bone c = search needs
@@ -43,13 +31,15 @@ add-put-bone c = search needs
 pointer-requires : tie.Need-pointer-requires Inv-loop μ-loop
 pointer-requires c κs = omega (
   arith,
-  boning-small (c .before .before .before .before .before .before .before .pre) (c .before
-      .before .before .before .loop .inv) (c .before .before .before .loop-test .taken) (c .before .name-bytes .ensures),
+  boning-small (c .before .before .before .before .before .before .before .pre) (c
+      .before .before .before .before .loop .inv) (c .before .before .before .loop-test .taken) (c .before .before .row-in
+      .ensures) (c .before .name-bytes .ensures),
 )
 
 put-bone-requires : tie.Need-put-bone-requires Inv-loop μ-loop
 put-bone-requires c κs = boning-room (c .before .before .before .before .before .before .before .before .pre) (c .before
-    .before .before .before .before .loop .inv) (c .before .before .before .before .loop-test .taken)
+    .before .before .before .before .loop .inv) (c .before .before .before .before .loop-test .taken) (c .before .before
+    .before .row-in .ensures)
 
 add-name : tie.Need-add-name Inv-loop μ-loop
 add-name c = record {
@@ -57,8 +47,8 @@ add-name c = record {
     arith,
     boning-small (c .before .before .before .before .before .before .before .before
         .before .before .before .pre) (c .before .before .before .before .before .before .before .before .loop .inv) (c .before
-        .before .before .before .before .before .before .loop-test .taken) (c .before .before .before .before .before .name-bytes
-        .ensures),
+        .before .before .before .before .before .before .loop-test .taken) (c .before .before .before .before .before .before
+        .row-in .ensures) (c .before .before .before .before .before .name-bytes .ensures),
   );
 }
 
@@ -69,10 +59,11 @@ loop-less : tie.Need-loop-less Inv-loop μ-loop
 loop-less c = search needs
 
 loop-again : tie.Need-loop-again Inv-loop μ-loop
-loop-again c = boning-more (c .before .before .before .before .before .before .before .before .before .before .before .pre) (c
-    .before .before .before .before .before .before .before .before .loop .inv) (c .before .before .before .before .before
-    .before .before .loop-test .taken) (c .before .before .before .before .before .name-bytes .ensures) (c .before .before
-    .before .pointer .ensures) (c .before .before .put-bone .ensures)
+loop-again c = boning-more (c .before .before .before .before .before .before .before .before .before .before .before .pre)
+    (c .before .before .before .before .before .before .before .before .loop .inv) (c .before .before .before .before
+    .before .before .before .loop-test .taken) (c .before .before .before .before .before .before .row-in .ensures) (c
+    .before .before .before .before .before .name-bytes .ensures) (c .before .before .before .pointer .ensures) (c .before
+    .before .put-bone .ensures)
 
 same-length : tie.Need-same-length Inv-loop μ-loop
 same-length c = search needs
@@ -87,11 +78,7 @@ put-bones-spec =
     Inv-loop
     μ-loop
     loop-holds
-    mul-start
-    mul-row
-    sub-row
-    part-row-start
-    part-row-end
+    row-in-requires
     name-bytes-requires
     mul-put-bone
     add-put-bone

@@ -6,13 +6,13 @@ use Rattle.write.proofs.Runs.{padded-by}
 use Rattle.write.proofs.filling.put_names_part.Statement.{statement}
 use Rattle.write.proofs.filling.put_names_part.Tie as tie
 
+add-end : tie.Need-add-end
+add-end c = search needs
+
 put-names-requires : tie.Need-put-names-requires
 put-names-requires c κs =
     let r = c .before .before .before .before .before .pre in
-    record { rows = r .rows; few = r .few; room = omega (arith, r .room, r .counts) }
-
-add-put-zeros : tie.Need-add-put-zeros
-add-put-zeros c = search needs
+    record { rows = r .rows; few = r .few; ends = omega (arith, r .counts); room = omega (arith, r .room) }
 
 fill-requires : tie.Need-fill-requires
 fill-requires c κs = search needs
@@ -33,10 +33,4 @@ returns c =
 pub put-names-part-spec : {M : Type 1} → statement M
 put-names-part-spec =
     tie.close
-    (tie.spec
-    put-names-requires
-    add-put-zeros
-    fill-requires
-    put-zeros-requires
-    same-length
-    returns)
+    (tie.spec add-end put-names-requires fill-requires put-zeros-requires same-length returns)

@@ -7,32 +7,20 @@ use Rattle.write.proofs.names.put_names.Statement.{statement}
 use Rattle.write.proofs.names.put_names.Tie as tie
 
 abbrev Inv-loop : tie.InvT-loop
-Inv-loop d₀ at bones n sys gfx p₀ to₀ d p to = Naming (section sys gfx) bones n d₀ at d p to
+Inv-loop d₀ at end bones n sys gfx p₀ to₀ d p to = Naming (section sys gfx) bones n d₀ at d p to
 
 abbrev μ-loop : tie.MeasureT-loop
-μ-loop d₀ at bones n sys gfx p₀ to₀ d p to = n - p
+μ-loop d₀ at end bones n sys gfx p₀ to₀ d p to = n - p
 
 loop-holds : tie.Need-loop-holds Inv-loop μ-loop
 loop-holds c = naming-none _ _ _ _ _
 
-mul-start : tie.Need-mul-start Inv-loop μ-loop
-mul-start c = search needs
-
-mul-row : tie.Need-mul-row Inv-loop μ-loop
-mul-row c = search needs
-
-sub-row : tie.Need-sub-row Inv-loop μ-loop
-sub-row c = search needs
-
-part-row-start : tie.Need-part-row-start Inv-loop μ-loop
-part-row-start c = search needs
-
-part-row-end : tie.Need-part-row-end Inv-loop μ-loop
-part-row-end c = search needs
+row-in-requires : tie.Need-row-in-requires Inv-loop μ-loop
+row-in-requires c κs = search needs
 
 put-name-requires : tie.Need-put-name-requires Inv-loop μ-loop
 put-name-requires c κs = naming-room (c .before .before .before .loop .inv) (c .before .before .loop-test .taken) (c .before
-    .before .before .before .before .before .before .before .pre)
+    .before .before .before .before .before .before .before .pre) (c .before .row-in .ensures)
 
 add-p : tie.Need-add-p Inv-loop μ-loop
 add-p c = search needs
@@ -42,7 +30,9 @@ loop-less c = search needs
 
 loop-again : tie.Need-loop-again Inv-loop μ-loop
 loop-again c = naming-more (c .before .before .before .before .before .before .loop .inv) (c .before .before .before .before
-    .before .loop-test .taken) (c .before .before .put-name .ensures .0) (c .before .before .put-name .ensures .1)
+    .before .loop-test .taken) (c .before .before .before .before .before .before .before .before .before .before .before
+    .pre) (c .before .before .before .before .row-in .ensures) (c .before .before .put-name .ensures .0) (c .before .before
+    .put-name .ensures .1)
 
 same-length : tie.Need-same-length Inv-loop μ-loop
 same-length c = search needs
@@ -57,11 +47,7 @@ put-names-spec =
     Inv-loop
     μ-loop
     loop-holds
-    mul-start
-    mul-row
-    sub-row
-    part-row-start
-    part-row-end
+    row-in-requires
     put-name-requires
     add-p
     loop-less

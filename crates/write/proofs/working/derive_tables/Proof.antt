@@ -5,8 +5,8 @@ use Rattle.write.proofs.Tabling.{tags-stop, matrices-stop, indices-stop
 use Rattle.write.proofs.working.derive_tables.Statement.{statement}
 use Rattle.write.proofs.working.derive_tables.Tie as tie
 
-build-bone-tags-requires : tie.Need-build-bone-tags-requires
-build-bone-tags-requires c κs = search needs
+build-transformations-requires : tie.Need-build-transformations-requires
+build-transformations-requires c κs = search needs
 
 enum-known-r : tie.Need-enum-known-r
 enum-known-r c = search needs
@@ -19,21 +19,23 @@ same-length-2 c = search needs
 
 returns : tie.Need-returns
 returns c =
-    let a = c .before .before .before .before .before .before .before .before .before .before .before .before .before .before
-    .before .before .before .before .args in
+    let s = c .before .before .before .before .before .before .before .before .before .before .before .before .before
+    .before .before .before .before .before in
+    let a = s .args in
     let x = tables (a .buckets .now) (a .entries .now) (a .inverse .now) (a .local .now) (a .parents .now) (a .children .now)
     (a .pending .now) in
     let t = a .bones .now in
-    derived-stops (a .n) t x (c .before .before .before .before .before .before .before .before .before .before .before .before
-    .before .before .before .before .before .before .pre) _ (tags-stop (a .n) t x (c .before .before .before .before .before
-    .before .before .before .before .before .before .before .before .before .before .before .before .before .pre) (c .before
-    .before .before .before .before .before .before .build-bone-tags .ensures .0) (c .before .r .given .1))
+    derived-stops (a .n) t x (s .pre) _ (matrices-stop (a .n) t x (s .pre) (c .before .before .before .before .before
+    .before .before .build-transformations .ensures .0) (c .before .r .given .1))
 
 enum-told : tie.Need-enum-told
 enum-told c = search needs
 
-build-transformations-requires : tie.Need-build-transformations-requires
-build-transformations-requires c κs = search needs
+build-indices-requires : tie.Need-build-indices-requires
+build-indices-requires c κs = search needs
+
+enum-known-k : tie.Need-enum-known-k
+enum-known-k c = search needs
 
 enum-known-r-2 : tie.Need-enum-known-r-2
 enum-known-r-2 c = search needs
@@ -50,34 +52,29 @@ same-length-5 c = search needs
 same-length-6 : tie.Need-same-length-6
 same-length-6 c = search needs
 
+same-length-7 : tie.Need-same-length-7
+same-length-7 c = search needs
+
 returns-2 : tie.Need-returns-2
 returns-2 c =
-    let a = c .before .before .before .before .before .before .before .before .before .before .before .before .before .before
-    .before .before .before .before .before .before .before .before .before .before .before .before .before .args in
+    let s = c .before .before .before .before .before .before .before .before .before .before .before .before .before
+    .before .before .before .before .before .before .before .before .before .before .before .before .before .before .before
+    .before .before in
+    let a = s .args in
     let x = tables (a .buckets .now) (a .entries .now) (a .inverse .now) (a .local .now) (a .parents .now) (a .children .now)
     (a .pending .now) in
     let t = a .bones .now in
-    derived-stops (a .n) t x (c .before .before .before .before .before .before .before .before .before .before .before .before
-    .before .before .before .before .before .before .before .before .before .before .before .before .before .before .before
-    .pre) _ (matrices-stop (a .n) t x (c .before .before .before .before .before .before .before .before .before .before
-    .before .before .before .before .before .before .before .before .before .before .before .before .before .before .before
-    .before .before .pre) (c .before .before .before .before .before .before .before .build-transformations .ensures .0) (c
-    .before .r2 .given .1))
+    derived-stops (a .n) t x (s .pre) _ (indices-stop (a .n) t x (s .pre) (c .before .before .before .before .before .before
+    .before .before .before .build-indices .ensures .0) (c .before .r2 .given .1))
 
-enum-told-2 : tie.Need-enum-told-2
-enum-told-2 c = search needs
-
-build-indices-requires : tie.Need-build-indices-requires
-build-indices-requires c κs = search needs
+build-bone-tags-requires : tie.Need-build-bone-tags-requires
+build-bone-tags-requires c κs = search needs
 
 enum-known-r-3 : tie.Need-enum-known-r-3
 enum-known-r-3 c = search needs
 
-enum-known-k : tie.Need-enum-known-k
-enum-known-k c = search needs
-
-same-length-7 : tie.Need-same-length-7
-same-length-7 c = search needs
+enum-told-2 : tie.Need-enum-told-2
+enum-told-2 c = search needs
 
 same-length-8 : tie.Need-same-length-8
 same-length-8 c = search needs
@@ -97,24 +94,20 @@ same-length-12 c = search needs
 same-length-13 : tie.Need-same-length-13
 same-length-13 c = search needs
 
+same-length-14 : tie.Need-same-length-14
+same-length-14 c = search needs
+
 returns-3 : tie.Need-returns-3
 returns-3 c =
-    let a = c .before .before .before .before .before .before .before .before .before .before .before .before .before .before
+    let s = c .before .before .before .before .before .before .before .before .before .before .before .before .before
     .before .before .before .before .before .before .before .before .before .before .before .before .before .before .before
-    .before .before .before .before .before .before .before .before .before .before .args in
+    .before .before .before .before .before .before .before .before .before .before .before .before in
+    let a = s .args in
     let x = tables (a .buckets .now) (a .entries .now) (a .inverse .now) (a .local .now) (a .parents .now) (a .children .now)
     (a .pending .now) in
     let t = a .bones .now in
-    derived-stops (a .n) t x (c .before .before .before .before .before .before .before .before .before .before .before .before
-    .before .before .before .before .before .before .before .before .before .before .before .before .before .before .before
-    .before .before .before .before .before .before .before .before .before .before .before .before .pre) _ (indices-stop (a
-    .n) t x (c .before .before .before .before .before .before .before .before .before .before .before .before .before .before
-    .before .before .before .before .before .before .before .before .before .before .before .before .before .before .before
-    .before .before .before .before .before .before .before .before .before .before .pre) (c .before .before .before .before
-    .before .before .before .before .before .build-indices .ensures .0) (c .before .r3 .given .1))
-
-same-length-14 : tie.Need-same-length-14
-same-length-14 c = search needs
+    derived-stops (a .n) t x (s .pre) _ (tags-stop (a .n) t x (s .pre) (c .before .before .before .before .before .before
+    .before .build-bone-tags .ensures .0) (c .before .r3 .given .1))
 
 same-length-15 : tie.Need-same-length-15
 same-length-15 c = search needs
@@ -134,29 +127,30 @@ same-length-19 c = search needs
 same-length-20 : tie.Need-same-length-20
 same-length-20 c = search needs
 
+same-length-21 : tie.Need-same-length-21
+same-length-21 c = search needs
+
 returns-4 : tie.Need-returns-4
 returns-4 c =
-    let a = c .before .before .before .before .before .before .before .before .before .before .before .before .before .before
+    let s = c .before .before .before .before .before .before .before .before .before .before .before .before .before
     .before .before .before .before .before .before .before .before .before .before .before .before .before .before .before
-    .before .before .before .before .before .before .before .before .before .before .args in
+    .before .before .before .before .before .before .before .before .before .before .before in
+    let a = s .args in
     let x = tables (a .buckets .now) (a .entries .now) (a .inverse .now) (a .local .now) (a .parents .now) (a .children .now)
     (a .pending .now) in
     let t = a .bones .now in
-    let u = c .before .before .before .before .before .before .before .before .before .before .before .before .before .before
-    .before .before .before .before .before .before .before .before .before .before .before .before .before .before
-    .build-bone-tags in
-    let v = c .before .before .before .before .before .before .before .before .before .before .before .before .before .before
-    .before .before .before .before .before .build-transformations in
-    let w = c .before .before .before .before .before .before .before .before .before .build-indices in
+    let u = c .before .before .before .before .before .before .build-bone-tags in
+    let v = c .before .before .before .before .before .before .before .before .before .before .before .before .before
+    .before .before .before .before .before .before .before .before .before .before .before .before .before .before .before
+    .build-transformations in
+    let w = c .before .before .before .before .before .before .before .before .before .before .before .before .before
+    .before .before .before .before .before .build-indices in
     let y = tables (u .last .1 .1 .0) (u .last .1 .1 .1 .0) (v .last .1 .1 .0) (v .last .1 .1 .1 .0) (w .last .1 .1 .0)
     (w .last .1 .1 .1 .0) (w .last .1 .1 .1 .1 .0) in
-    all-derived (a .n) t x (c .before .before .before .before .before .before .before .before .before .before .before .before
+    all-derived (a .n) t x (s .pre) y (u .ensures .0) (c .enum-told2 .given .1) (v .ensures .0) (c .before .before .before
     .before .before .before .before .before .before .before .before .before .before .before .before .before .before .before
-    .before .before .before .before .before .before .before .before .before .before .before .before .pre) y (u .ensures .0) (c
-    .before .before .before .before .before .before .before .before .before .before .before .before .before .before .before
-    .before .before .before .before .before .before .before .enum-told .given .1) (v .ensures .0) (c .before .before .before
-    .before .before .before .before .before .before .before .before .before .before .enum-told2 .given .1)
-    (w .ensures .0) (c .before .k .given .1)
+    .before .before .before .before .enum-told .given .1)
+    (w .ensures .0) (c .before .before .before .before .before .before .before .before .before .before .k .given .1)
     (record {
       buckets = u .kept .1 .1 .0;
       entries = u .kept .1 .1 .1 .0;
@@ -171,36 +165,37 @@ pub derive-tables-spec : {M : Type 1} → statement M
 derive-tables-spec =
     tie.close
     (tie.spec
-    build-bone-tags-requires
+    build-transformations-requires
     enum-known-r
     same-length
     same-length-2
     returns
     enum-told
-    build-transformations-requires
+    build-indices-requires
+    enum-known-k
     enum-known-r-2
     same-length-3
     same-length-4
     same-length-5
     same-length-6
-    returns-2
-    enum-told-2
-    build-indices-requires
-    enum-known-r-3
-    enum-known-k
     same-length-7
+    returns-2
+    build-bone-tags-requires
+    enum-known-r-3
+    enum-told-2
     same-length-8
     same-length-9
     same-length-10
     same-length-11
     same-length-12
     same-length-13
-    returns-3
     same-length-14
+    returns-3
     same-length-15
     same-length-16
     same-length-17
     same-length-18
     same-length-19
     same-length-20
+    same-length-21
     returns-4)
