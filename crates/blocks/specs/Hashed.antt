@@ -34,9 +34,9 @@ used key (suc n) = cond (eqb (key n) 0) (used key n) (suc (used key n))
 
 -- ---- the search
 
--- the row at which the search for an address starts
+-- the row at which the search for an address starts, of n: that of its stretch of 512 bytes, and 7 rows more for each 16 bytes
 unfoldable pub homeOf : ℕ → ℕ → ℕ
-homeOf a n = a / 16 % 4294967296 * 2654435769 / 65536 % n
+homeOf a n = (a / 512 % 4294967296 * 2654435769 % 4294967296 * (n % 4294967296) / 4294967296 + a % 512 * 7 / 16) % n
 
 -- when a search that starts at row h comes to row i: rows h to n - 1, then 0 to h - 1
 unfoldable pub rank : ℕ → ℕ → ℕ → ℕ

@@ -10,7 +10,7 @@ use Rattle.format.specs.Result.{Res, refused, done, _>>=_, need}
 use Rattle.format.specs.Refusal.{number}
 use Rattle.format.specs.Tables.{Kind, Rows, rows, Pooled, pooled, find, replace, asKind}
 use Rattle.blocks.specs.Kinds.{meantKind}
-use Rattle.blocks.specs.Hashed.{Represents}
+use Rattle.blocks.specs.Hashed.{Represents, Placed}
 use Rattle.blocks.specs.declared.pool.Found.{Found}
 use Rattle.blocks.specs.declared.pool.Found.the-variants.{Nothing as nothing-found, At as found-at}
 use Rattle.blocks.specs.declared.pool.Cached.{Cached}
@@ -75,3 +75,14 @@ pub record Entered (n : ℕ) (p : Pooled) (q : List Pooled) (r : Stored) (t₀ t
 
 pub record Stores (p : Pooled) (r : Stored) (t₀ t : List ℕ) : Type 0 where
   pub entered : {n : ℕ} {q : List Pooled} → Represents t₀ n q → Entered n p q r t₀ t
+
+-- ---- the same at the row i where the search for an address ended
+
+pub record FindsAt (t : List ℕ) (i : ℕ) (r : Found) : Type 0 where
+  pub at : (a : ℕ) → Placed t a i → Finds t a r
+
+pub record FindsAsAt (t : List ℕ) (k : Kind) (i : ℕ) (r : Cached) : Type 0 where
+  pub at : (a : ℕ) → Placed t a i → FindsAs t k a r
+
+pub record StoresAt (i : ℕ) (p : Pooled) (r : Stored) (t₀ t : List ℕ) : Type 0 where
+  pub at : Placed t₀ (p .address) i → Stores p r t₀ t

@@ -8,7 +8,7 @@ ghost use mathlib.Core.Path.{_≡_};
 ghost use Prim.Native.Nat.{_≤_, _<_};
 ghost use Rattle.blocks.specs.Kinds.{meantKind};
 ghost use Rattle.blocks.specs.Hashed.{rowsOf, homeOf, Scanned, Placed};
-ghost use Rattle.blocks.specs.Pool.{rowOf, Finds, FindsAs, Stores};
+ghost use Rattle.blocks.specs.Pool.{rowOf, Finds, FindsAs, Stores, FindsAt, FindsAsAt, StoresAt};
 use crate::kinds::Kind;
 use format::Refusal;
 
@@ -38,13 +38,20 @@ pub enum Stored {
     Full,
 }
 
-// The row at which the search for an address starts. The mix spreads addresses that are evenly spaced, as a section's are.
+// The row at which the search for an address starts. Addresses of one stretch of 512 bytes stay together, 7 rows to 16 bytes, since
+// they are asked for one after another; the stretches are spread evenly over the table by the golden ratio.
 fn home(va: u64, rows: usize) -> usize
     requires { ⌜ 0 < rows ⌝ }
     ensures { λ r. ⌜ (r ≡ homeOf va rows) × (r < rows) ⌝ }
 {
-    let mixed = va / 16 % 4294967296 * 2654435769 / 65536;
-    (mixed % (rows as u64)) as usize
+    let n = rows as u64;
+    let mixed = va / 512 % 4294967296 * 2654435769 % 4294967296;
+    let stretch = mixed * (n % 4294967296) / 4294967296;
+    let row = stretch + va % 512 * 7 / 16;
+    if row < n {
+        return row as usize;
+    }
+    (row % n) as usize
 }
 
 // The first row of `from` .. `to` that is free or has the address, else `to`.
@@ -66,9 +73,10 @@ fn scan(pool: &[u64], va: u64, from: usize, to: usize) -> usize
 }
 
 // The row at which the search for an address ends: its own, or the first free row from its home on, around the end; the number
-// of rows if there is neither. Two straight scans: from the home to the end, and from the start to the home.
-fn place(pool: &[u64], va: u64) -> usize
-    ensures { λ r. ⌜ Placed (now (pool .entry)) va r ⌝ }
+// of rows if there is neither. Two straight scans: from the home to the end, and from the start to the home. One search serves
+// `cached_at` and `put_at`, as long as no other row is stored between them.
+pub fn place(pool: &[u64], va: u64) -> usize
+    ensures row { λ r. ⌜ Placed (now (pool .entry)) va r ⌝ }
 {
     let rows = pool.len() / POOL_WORDS;
     if rows == 0 {
@@ -86,11 +94,10 @@ fn place(pool: &[u64], va: u64) -> usize
     rows
 }
 
-// What was read at an address.
-pub fn find(pool: &[u64], va: u64) -> Found
-    ensures answer { λ r. ⌜ Finds (now (pool .entry)) va r ⌝ }
+// What stands in row i, where the search for an address ended.
+fn row_at(pool: &[u64], i: usize) -> Found
+    ensures { λ r. ⌜ FindsAt (now (pool .entry)) i r ⌝ }
 {
-    let i = place(pool, va);
     if i < pool.len() / POOL_WORDS {
         let code = pool[POOL_WORDS * i + 1];
         if code != 0 {
@@ -102,11 +109,18 @@ pub fn find(pool: &[u64], va: u64) -> Found
     Found::Nothing
 }
 
-// What was read at an address as a kind; 12 where another kind was.
-pub fn cached_as(pool: &[u64], kind: Kind, va: u64) -> Cached
-    ensures answer { λ r. ⌜ FindsAs (now (pool .entry)) (meantKind kind) va r ⌝ }
+// What was read at an address.
+pub fn find(pool: &[u64], va: u64) -> Found
+    ensures answer { λ r. ⌜ Finds (now (pool .entry)) va r ⌝ }
 {
-    match find(pool, va) {
+    row_at(pool, place(pool, va))
+}
+
+// What was read as a kind at an address whose search ended at row i; 12 where another kind was.
+pub fn cached_at(pool: &[u64], kind: Kind, i: usize) -> Cached
+    ensures answer { λ r. ⌜ FindsAsAt (now (pool .entry)) (meantKind kind) i r ⌝ }
+{
+    match row_at(pool, i) {
         Found::Nothing => Cached::Nothing,
         Found::At(k, first, count) => {
             if k.same(kind) {
@@ -117,12 +131,17 @@ pub fn cached_as(pool: &[u64], kind: Kind, va: u64) -> Cached
     }
 }
 
-// Pools what was read at an address, in the place of the earlier row of the address if there is one. The table then holds the
-// pool with the row; of a full table every word is as it was.
-pub fn put(pool: &mut [u64], va: u64, kind: Kind, first: u64, count: u64) -> Stored
-    ensures table { λ r. ⌜ Stores (rowOf va (meantKind kind) first count) r (now (pool .entry)) (now (pool .exit)) ⌝ }
+// What was read at an address as a kind; 12 where another kind was.
+pub fn cached_as(pool: &[u64], kind: Kind, va: u64) -> Cached
+    ensures answer { λ r. ⌜ FindsAs (now (pool .entry)) (meantKind kind) va r ⌝ }
 {
-    let i = place(pool, va);
+    cached_at(pool, kind, place(pool, va))
+}
+
+// Pools what was read at an address whose search ended at row i, as `put` does.
+pub fn put_at(pool: &mut [u64], i: usize, va: u64, kind: Kind, first: u64, count: u64) -> Stored
+    ensures table { λ r. ⌜ StoresAt i (rowOf va (meantKind kind) first count) r (now (pool .entry)) (now (pool .exit)) ⌝ }
+{
     if pool.len() / POOL_WORDS <= i {
         return Stored::Full;
     }
@@ -132,4 +151,13 @@ pub fn put(pool: &mut [u64], va: u64, kind: Kind, first: u64, count: u64) -> Sto
     pool[POOL_WORDS * i + 2] = first;
     pool[POOL_WORDS * i + 3] = count;
     Stored::Done
+}
+
+// Pools what was read at an address, in the place of the earlier row of the address if there is one. The table then holds the
+// pool with the row; of a full table every word is as it was.
+pub fn put(pool: &mut [u64], va: u64, kind: Kind, first: u64, count: u64) -> Stored
+    ensures table { λ r. ⌜ Stores (rowOf va (meantKind kind) first count) r (now (pool .entry)) (now (pool .exit)) ⌝ }
+{
+    let i = place(pool, va);
+    put_at(pool, i, va, kind, first, count)
 }

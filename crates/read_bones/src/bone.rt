@@ -3,6 +3,7 @@ ghost use mathlib.Core.Path.{_≡_};
 ghost use Prim.Native.Nat.{_+_, _≤_};
 ghost use Rattle.format.specs.Field.{fieldAt};
 ghost use Rattle.blocks.specs.Places.{section};
+ghost use Rattle.blocks.specs.Hashed.{Placed};
 ghost use Rattle.bones.specs.Value.{meantWords3, meantWords4, meantBone};
 ghost use Rattle.read_bones.specs.Bones.{wordsAt3, wordsAt4, boneAt, ReadsName, NewName, BoneFrom, NewBone, ReadsBone};
 use blocks::kinds::Kind;
@@ -27,13 +28,15 @@ pub enum Row {
 
 // ---- names
 
-// The name at an address where nothing was read before: 10 and 11 for the address, 1 where the pool has no row for it.
-fn new_name(sys: &[u8], gfx: &[u8], va: u64, pool: &mut [u64]) -> Named
+// The name at an address where nothing was read before: 10 and 11 for the address, 1 where the pool has no row for it. The search
+// for the address ended at row i of the pool.
+fn new_name(sys: &[u8], gfx: &[u8], va: u64, i: usize, pool: &mut [u64]) -> Named
+    requires { ⌜ Placed (now pool) va i ⌝ }
     ensures { λ r. ⌜ NewName (section (now (sys .entry)) (now (gfx .entry))) va r (now (pool .entry)) (now (pool .exit)) ⌝ }
 {
     let n = names::name_at(sys, gfx, va);
     match n {
-        Named::At(p) => match pool::put(pool, va, Kind::String, p.address, p.size) {
+        Named::At(p) => match pool::put_at(pool, i, va, Kind::String, p.address, p.size) {
             pool::Stored::Done => Named::At(p),
             pool::Stored::Full => Named::Refused(Refusal::TableTooShort),
         },
@@ -51,8 +54,9 @@ fn read_name(sys: &[u8], gfx: &[u8], va: u64, pool: &mut [u64]) -> Named
             size: 0,
         });
     }
-    match pool::cached_as(pool, Kind::String, va) {
-        Cached::Nothing => new_name(sys, gfx, va, pool),
+    let i = pool::place(pool, va);
+    match pool::cached_at(pool, Kind::String, i) {
+        Cached::Nothing => new_name(sys, gfx, va, i, pool),
         Cached::At(address, size) => Named::At(Place {
             address: address,
             size: size,

@@ -12,8 +12,9 @@ use Rattle.format.specs.declared.Refusal.{Refusal}
 use Rattle.format.specs.Section.{Section}
 use Rattle.format.specs.Tables.{Tables, Room}
 use Rattle.format.specs.Read.{linkTo, readChain, headFrom, readHead}
+use Rattle.blocks.specs.Hashed.{Placed}
 use Rattle.read_chains.specs.Lent.{entryRoom, HoldsEntries, Comes}
-use Rattle.read_chains.specs.Entries.{noRow, meantLink, LinksTo, ReadsEntry, Chained, ReadsChain, ReadsHead}
+use Rattle.read_chains.specs.Entries.{noRow, meantLink, UnreadAt, LinksTo, ReadsEntry, Chained, ReadsChain, ReadsHead}
 use Rattle.read_chains.specs.declared.chains.Link.{Link}
 use Rattle.read_chains.specs.declared.chains.Link.the-variants as L
 use Rattle.read_chains.specs.declared.chains.Step.{Step}
@@ -80,7 +81,7 @@ module _ {sec : Section} {va used at row : ℕ} {e₀ e p₀ p : List ℕ} (g : 
         record { reads = λ {room} {t} h. turns h ∙ stepped i .reads (g .rest h .holds) (room .entries - (row + 1)) }
 
     pub chaining-next :
-        {a : ℕ} → s ≡ S.Next a → length e′ ≡ length e → length p′ ≡ length p → Chaining sec va used a (row + 1) e₀ e′ p₀ p′
+        {a n : ℕ} → s ≡ S.Next a n → length e′ ≡ length e → length p′ ≡ length p → Chaining sec va used a (row + 1) e₀ e′ p₀ p′
     chaining-next i j k =
         record {
           same = j ∙ g .same;
@@ -91,7 +92,15 @@ module _ {sec : Section} {va used at row : ℕ} {e₀ e p₀ p : List ℕ} (g : 
               record { t = c .t; is = turns h ∙ c .is; holds = c .holds };
         }
 
+    -- where the search for the next entry ended
+    pub next-placed : {a n : ℕ} → s ≡ S.Next a n → Placed p′ a n
+    next-placed i = stepped i .next
+
 -- ---- the head of a chain
+
+-- where the search for an unread entry ended
+pub link-placed : {p : List ℕ} {va n : ℕ} {x : Link} → LinksTo p va x → x ≡ L.Unread n → Placed p va n
+link-placed {p} {va} m i = subst (λ (y : Link). UnreadAt p va y) i (m .unread)
 
 module _ (sec : Section) {va used : ℕ} {e₀ p₀ : List ℕ} {x : Link} (m : LinksTo p₀ va x) where
   linked :
@@ -112,7 +121,7 @@ module _ (sec : Section) {va used : ℕ} {e₀ p₀ : List ℕ} {x : Link} (m : 
   pub head-other : {y : Refusal} → x ≡ L.Refused y → ReadsHead sec va used (H.Refused y) e₀ e₀ p₀ p₀
   head-other {y} i = record { reads = λ h. linked h (refused (number y)) (ap meantLink i) }
 
-  module _ (i : x ≡ L.Unread) {r : Chain} {e p : List ℕ} (c : ReadsChain sec va used r e₀ e p₀ p) where
+  module _ {n : ℕ} (i : x ≡ L.Unread n) {r : Chain} {e p : List ℕ} (c : ReadsChain sec va used r e₀ e p₀ p) where
     -- the chain's outcome, and what the head makes of it
     reading :
         {room : Room} {t : Tables} (h : HoldsEntries room t used e₀ p₀) (o : Res Tables) →

@@ -10,6 +10,7 @@ use Rattle.format.specs.Section.{Section}
 use Rattle.format.specs.Tables.{entry, Rows, rows, Tables, find, asKind}
 use Rattle.format.specs.Read.{linkOf, linkTo}
 use Rattle.blocks.specs.Places.{Locates}
+use Rattle.blocks.specs.Hashed.{Placed}
 use Rattle.blocks.specs.Pool.{FindsAs, meantCached}
 use Rattle.blocks.specs.declared.places.Located.{Located}
 use Rattle.blocks.specs.declared.places.Located.the-variants.{System, Graphics, Refused}
@@ -17,7 +18,7 @@ use Rattle.blocks.specs.declared.pool.Cached.{Cached}
 use Rattle.blocks.specs.declared.pool.Cached.the-variants as C
 use Rattle.blocks.proofs.Standing.{system-part, graphics-part, refused-part}
 use Rattle.read_chains.specs.Lent.{Linked}
-use Rattle.read_chains.specs.Entries.{noRow, meantLink, LinksTo}
+use Rattle.read_chains.specs.Entries.{noRow, meantLink, UnreadAt, LinksTo}
 use Rattle.read_chains.specs.declared.chains.Link.{Link}
 use Rattle.read_chains.specs.declared.chains.Link.the-variants as L
 use Rattle.read_chains.proofs.Lent.{link-row}
@@ -41,7 +42,7 @@ module _ {s : Section} {va : ℕ} {r : Located} (l : Locates s va 16 r) where
 
 pub links-zero : (p : List ℕ) (va : ℕ) → va ≡ 0 → LinksTo p va (L.To 0)
 unfolding linkTo
-links-zero p va e = rw e (record { links = λ t h l. refl })
+links-zero p va e = rw e (record { unread = tt; links = λ t h l. refl })
 
 link-read : (va : ℕ) (t : Tables) → (va ≡ 0 → ⊥) → linkTo va t ≡ (asKind entry (find va t.pool) >>= λ r. done (linkOf r))
 unfolding linkTo
@@ -49,24 +50,25 @@ link-read zero t n = absurd (n refl)
 link-read (suc a) t n = refl
 
 module _ {p : List ℕ} {va : ℕ} (n : va ≡ 0 → ⊥) {x : Cached} (m : FindsAs p entry va x) where
-  links-by : {y : Cached} {r : Link} → x ≡ y →
+  links-by : {y : Cached} {r : Link} → x ≡ y → UnreadAt p va r →
       ((t : Tables) → Linked t.pool → asKind entry (find va t.pool) ≡ meantCached y →
       meantLink r ≡ (meantCached y >>= λ r. done (linkOf r))) →
       LinksTo p va r
-  links-by {y} e f =
+  links-by {y} e u f =
       record {
+        unread = u;
         links =
             λ t h l.
             let is : asKind entry (find va t.pool) ≡ meantCached y = sym (m .found h) ∙ ap meantCached e in
             f t l is ∙ sym (link-read va t n ∙ ap (λ (r : Res (Option Rows)). r >>= λ r. done (linkOf r)) is);
       }
 
-  pub links-unread : x ≡ C.Nothing → LinksTo p va L.Unread
-  links-unread e = links-by e λ t l is. refl
+  pub links-unread : x ≡ C.Nothing → {i : ℕ} → Placed p va i → LinksTo p va (L.Unread i)
+  links-unread e g = links-by e g λ t l is. refl
 
   pub links-read : {f c k : ℕ} → x ≡ C.At f c → k ≡ f % 4294967295 + 1 → LinksTo p va (L.To k)
   links-read {f} {c} {k} e i =
-      links-by e λ t l is. let j : k ≡ suc f = link-row f i (l .fits va (rows f c) is) in ap (λ (y : ℕ). done (some y)) j
+      links-by e tt λ t l is. let j : k ≡ suc f = link-row f i (l .fits va (rows f c) is) in ap (λ (y : ℕ). done (some y)) j
 
   pub links-other : {y : Refusal} → x ≡ C.Refused y → LinksTo p va (L.Refused y)
-  links-other e = links-by e λ t l is. refl
+  links-other e = links-by e tt λ t l is. refl

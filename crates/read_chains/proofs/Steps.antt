@@ -1,7 +1,7 @@
 -- The ways out of `read_entry`: one turn of the format's `readChain`. Assumes nothing.
 use Prim.Native.Nat.{ℕ, suc, _+_, _*_, _%_, _<_}
 use native.Mathlib.Omega.{arith}
-use mathlib.Core.Path.{_≡_, refl, sym, ap, _∙_}
+use mathlib.Core.Path.{_≡_, refl, sym, ap, subst, _∙_}
 use mathlib.Core.Option.{Option, none, some}
 use mathlib.Core.List.{List, [], _∷_}
 use lib.ListN.{length}
@@ -21,7 +21,7 @@ use Rattle.blocks.specs.declared.pool.Stored.the-variants.{Done, Full}
 use Rattle.blocks.proofs.Storing.{after, put-done, tables-done, tables-full}
 use Rattle.read_chains.specs.Lent.{entryRoom, HoldsEntries}
 use Rattle.records.specs.Entry.{entryAt, meantFields}
-use Rattle.read_chains.specs.Entries.{meantLink, LinksTo, ReadsEntry}
+use Rattle.read_chains.specs.Entries.{meantLink, UnreadAt, LinksTo, ReadsEntry}
 use Rattle.records.specs.declared.entry.Entry.{Entry}
 use Rattle.records.specs.declared.entry.Fields.{Fields}
 use Rattle.records.specs.declared.entry.Fields.the-variants as F
@@ -39,7 +39,7 @@ module _ (sec : Section) (va row : ℕ) {e₀ p₀ : List ℕ} {y : Fields} (fs 
   pub step-lost : {x : Refusal} → y ≡ F.Refused x → ReadsEntry sec va row (S.Refused x) e₀ e₀ p₀ p₀
   unfolding readChain
   step-lost {x} a =
-      record { reads = λ h left. rw (entry-lost sec va (number x) (sym (ap meantFields a) ∙ fs)) refl }
+      record { next = tt; reads = λ h left. rw (entry-lost sec va (number x) (sym (ap meantFields a) ∙ fs)) refl }
 
   module _ {f : Entry} (a : y ≡ F.At f) {s : Stored} {p : List ℕ} (w : Stores (pooled va entry (rows row 1)) s p₀ p) where
     -- the pool is full
@@ -47,6 +47,7 @@ module _ (sec : Section) (va row : ℕ) {e₀ p₀ : List ℕ} {y : Fields} (fs 
     unfolding readChain
     step-full d =
         record {
+          next = tt;
           reads =
               λ {room} {t} h left.
               rw (holding fs a .is, ← h .count, tables-full room t va entry (rows row 1) w (h .pool) d) refl;
@@ -73,7 +74,7 @@ module _ (sec : Section) (va row : ℕ) {e₀ p₀ : List ℕ} {y : Fields} (fs 
 
         -- its link leads to another kind
         pub step-other : {x : Refusal} → l ≡ L.Refused x → ReadsEntry sec va row (S.Refused x) e₀ e₀ p₀ p
-        step-other {x} e = record { reads = λ h left. turn h left (refused (number x)) (ap meantLink e) }
+        step-other {x} e = record { next = tt; reads = λ h left. turn h left (refused (number x)) (ap meantLink e) }
 
         -- the chain ends, or joins one already read
         pub step-end :
@@ -81,6 +82,7 @@ module _ (sec : Section) (va row : ℕ) {e₀ p₀ : List ℕ} {y : Fields} (fs 
             ReadsEntry sec va row S.End e₀ e p₀ p
         step-end {k} i is =
             record {
+              next = tt;
               reads =
                   λ h left.
                   record {
@@ -94,12 +96,13 @@ module _ (sec : Section) (va row : ℕ) {e₀ p₀ : List ℕ} {y : Fields} (fs 
 
         -- the next entry is yet to be read: it will stand in the next row
         pub step-next :
-            {k : ℕ} {e : List ℕ} → l ≡ L.Unread → k ≡ (row + 1) % 4294967295 + 1 →
-            e ≡ sets e₀ (3 * row) (f .tag ∷ f .position ∷ k ∷ []) → ReadsEntry sec va row (S.Next (f .next)) e₀ e p₀ p
-        step-next {k} i j is =
+            {n k : ℕ} {e : List ℕ} → l ≡ L.Unread n → k ≡ (row + 1) % 4294967295 + 1 →
+            e ≡ sets e₀ (3 * row) (f .tag ∷ f .position ∷ k ∷ []) → ReadsEntry sec va row (S.Next (f .next) n) e₀ e p₀ p
+        step-next {n} {k} i j is =
             let low : row + 1 < 4294967295 = omega (arith, room-most (length e₀)) in
             let next : suc (suc row) ≡ k = omega (arith, link-row (row + 1) j low) in
             record {
+              next = subst (λ (x : Link). UnreadAt p (f .next) x) i (m .unread);
               reads =
                   λ {room} {t} h left.
                   record {

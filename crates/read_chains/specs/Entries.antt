@@ -9,7 +9,7 @@ use Rattle.format.specs.Refusal.{number}
 use Rattle.format.specs.Section.{Section, part}
 use Rattle.format.specs.Tables.{Tables, Room}
 use Rattle.format.specs.Read.{Step, linkTo, readChain, readHead}
-use Rattle.blocks.specs.Hashed.{Represents}
+use Rattle.blocks.specs.Hashed.{Represents, Placed}
 use Rattle.read_chains.specs.Lent.{Linked, HoldsEntries, Comes}
 use Rattle.read_chains.specs.declared.chains.Link.{Link}
 use Rattle.read_chains.specs.declared.chains.Link.the-variants as L
@@ -32,10 +32,17 @@ noRow sec va = do
 
 abbrev pub meantLink : Link → Res (Option ℕ)
 meantLink (L.To k) = done (some k)
-meantLink L.Unread = done none
+meantLink (L.Unread i) = done none
 meantLink (L.Refused x) = refused (number x)
 
+-- the search for an entry that is yet to be read ended at the row told
+abbrev pub UnreadAt : List ℕ → ℕ → Link → Type 0
+UnreadAt p va (L.To k) = Unit {0}
+UnreadAt p va (L.Unread i) = Placed p va i
+UnreadAt p va (L.Refused x) = Unit {0}
+
 pub record LinksTo (p : List ℕ) (va : ℕ) (r : Link) : Type 0 where
+  pub unread : UnreadAt p va r
   pub links : {n : ℕ} (t : Tables) → Represents p n t.pool → Linked t.pool → meantLink r ≡ linkTo va t
 
 -- ---- one entry
@@ -43,10 +50,17 @@ pub record LinksTo (p : List ℕ) (va : ℕ) (r : Link) : Type 0 where
 -- g is the chain from an entry on; `left` rows are left behind the entry's own
 abbrev pub Stepped : Section → Room → ℕ → Res Tables → ℕ → List ℕ → List ℕ → Answer → Type 0
 Stepped sec room left g used e p S.End = Comes (λ u. HoldsEntries room u used e p) g done
-Stepped sec room left g used e p (S.Next a) = Comes (λ u. HoldsEntries room u used e p) g (readChain sec room left a)
+Stepped sec room left g used e p (S.Next a i) = Comes (λ u. HoldsEntries room u used e p) g (readChain sec room left a)
 Stepped sec room left g used e p (S.Refused x) = g ≡ refused (number x)
 
+-- the search for the next entry ended at the row told
+abbrev pub NextAt : List ℕ → Answer → Type 0
+NextAt p S.End = Unit {0}
+NextAt p (S.Next a i) = Placed p a i
+NextAt p (S.Refused x) = Unit {0}
+
 pub record ReadsEntry (sec : Section) (va row : ℕ) (r : Answer) (e₀ e p₀ p : List ℕ) : Type 0 where
+  pub next : NextAt p r
   pub reads :
       {room : Room} {t : Tables} → HoldsEntries room t row e₀ p₀ → (left : ℕ) →
       Stepped sec room left (readChain sec room (suc left) va t) (row + 1) e p r

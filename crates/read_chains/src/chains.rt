@@ -8,6 +8,7 @@ ghost use lib.Seq.{sets};
 ghost use Rattle.format.specs.Result.{refused};
 ghost use Rattle.format.specs.Refusal.{number};
 ghost use Rattle.blocks.specs.Places.{section};
+ghost use Rattle.blocks.specs.Hashed.{Placed};
 ghost use Rattle.read_chains.specs.Lent.{entryRoom};
 ghost use Rattle.read_chains.specs.Entries.{noRow, LinksTo};
 ghost use Rattle.read_chains.specs.Entries.{ReadsEntry, ReadsChain, ReadsHead};
@@ -32,8 +33,8 @@ pub const MOST_ENTRIES: usize = 4294967294;
 enum Link {
     // the link: 0, or one more than the row of an entry already read
     To(u32),
-    // an entry that is yet to be read
-    Unread,
+    // an entry that is yet to be read, and the row of the pool at which the search for it ended
+    Unread(usize),
     // 12: another kind was read there
     Refused(Refusal),
 }
@@ -42,8 +43,8 @@ enum Link {
 enum Step {
     // nothing, or an entry already read
     End,
-    // the entry at this address, in the next row
-    Next(u64),
+    // the entry at this address, in the next row; then as in `Link`
+    Next(u64, usize),
     Refused(Refusal),
 }
 
@@ -96,8 +97,9 @@ fn link_to(pool: &[u64], va: u64) -> Link
     if va == 0 {
         return Link::To(0);
     }
-    match pool::cached_as(pool, Kind::Entry, va) {
-        Cached::Nothing => Link::Unread,
+    let i = pool::place(pool, va);
+    match pool::cached_at(pool, Kind::Entry, i) {
+        Cached::Nothing => Link::Unread(i),
         Cached::At(first, _) => Link::To(link_of(first)),
         Cached::Refused(r) => Link::Refused(r),
     }
@@ -115,16 +117,17 @@ fn store(entries: &mut [u32], row: usize, tag: u32, position: u32, link: u32)
 }
 
 // The entry at an address, stored in a row that is free: 10 and 11 for its bytes, 1 for its row of the pool, 12 for its link. It
-// is pooled before its link is looked for: an entry that links to itself is its own next.
+// is pooled before its link is looked for: an entry that links to itself is its own next. The search for it ended at row i.
 fn read_entry(
     sys: &[u8],
     gfx: &[u8],
     va: u64,
+    i: usize,
     entries: &mut [u32],
     row: usize,
     pool: &mut [u64],
 ) -> Step
-    requires { ⌜ row < entryRoom (length (now entries)) ⌝ }
+    requires { ⌜ (row < entryRoom (length (now entries))) × Placed (now pool) va i ⌝ }
     ensures { λ r. ⌜ ReadsEntry (section (now (sys .entry)) (now (gfx .entry))) va row r
         (now (entries .entry)) (now (entries .exit)) (now (pool .entry)) (now (pool .exit)) ⌝ }
 {
@@ -132,7 +135,7 @@ fn read_entry(
     match f {
         Fields::Refused(r) => Step::Refused(r),
         Fields::At(e) => {
-            let s = pool::put(pool, va, Kind::Entry, row as u64, 1);
+            let s = pool::put_at(pool, i, va, Kind::Entry, row as u64, 1);
             if let Stored::Full = s {
                 return Step::Refused(Refusal::TableTooShort);
             }
@@ -142,10 +145,10 @@ fn read_entry(
                     store(entries, row, e.tag, e.position, k);
                     Step::End
                 }
-                Link::Unread => {
+                Link::Unread(j) => {
                     let k = link_of((row + 1) as u64);
                     store(entries, row, e.tag, e.position, k);
-                    Step::Next(e.next)
+                    Step::Next(e.next, j)
                 }
                 Link::Refused(r) => Step::Refused(r),
             }
@@ -154,29 +157,33 @@ fn read_entry(
 }
 
 // The entry at an address and those behind it, in the rows from `used` on, up to a link 0 or an entry already read. Each entry
-// takes a row: 1 where none is left.
+// takes a row: 1 where none is left. The search for the first ended at row i of the pool.
 fn read_chain(
     sys: &[u8],
     gfx: &[u8],
     va: u64,
+    i: usize,
     entries: &mut [u32],
     used: usize,
     pool: &mut [u64],
 ) -> Chain
+    requires { ⌜ Placed (now pool) va i ⌝ }
     ensures { λ r. ⌜ ReadsChain (section (now (sys .entry)) (now (gfx .entry))) va used r
         (now (entries .entry)) (now (entries .exit)) (now (pool .entry)) (now (pool .exit)) ⌝ }
 {
     let n = rows(entries.len());
     let mut at = va;
+    let mut free = i;
     let mut row = used;
     while row < n {
-        let s = read_entry(sys, gfx, at, entries, row, pool);
+        let s = read_entry(sys, gfx, at, free, entries, row, pool);
         match s {
             Step::End => {
                 return Chain::Done(row + 1);
             }
-            Step::Next(next) => {
+            Step::Next(next, j) => {
                 at = next;
+                free = j;
                 row += 1;
             }
             Step::Refused(r) => {
@@ -204,8 +211,8 @@ pub fn read_head(
     match l {
         Link::To(k) => Head::At(k, used),
         Link::Refused(r) => Head::Refused(r),
-        Link::Unread => {
-            let c = read_chain(sys, gfx, va, entries, used, pool);
+        Link::Unread(i) => {
+            let c = read_chain(sys, gfx, va, i, entries, used, pool);
             match c {
                 Chain::Done(n) => {
                     let k = link_of(used as u64);

@@ -5,21 +5,20 @@ use mathlib.Core.Logic.{⊎-elim}
 use mathlib.Core.Bool.{Bool, true, false}
 use mathlib.Core.List.{List, [], _∷_}
 use Prim.Native.Nat.{ℕ, zero, suc, _+_, _-_, _*_, _≤_, _<_}
-use native.Mathlib.Numerals.{add-one}
-use native.Mathlib.Nat.{mul-suc, mul-le-mul-left}
+use native.Mathlib.Nat.{mul-suc, mul-add, mul-le-mul-left}
 use native.Mathlib.Omega.{arith}
 use borrow.Author.Tests.{le-leb, lt-leb, lt-ltb, le-ltb, ltb-true, ltb-false}
 use lib.Dec.{leb, ltb}
 use lib.ListN.{length, getD, set, take, drop, length-set, length-drop, take-append-drop}
-use lib.Seq.{sets, take-suc, take-all, length-take-le, drop-drop, getD-take, getD-drop, ext-getD}
+use lib.Seq.{sets, length-sets, take-add, take-all, length-take-le, drop-cons, drop-drop, getD-take, getD-drop, ext-getD}
 use Rattle.format.specs.Result.{done}
-use Rattle.format.specs.Field.{fieldAt, words}
+use Rattle.format.specs.Field.{valueOf, fieldAt, words}
 use Rattle.format.specs.declared.Refusal.{Refusal}
 use Rattle.format.specs.declared.Refusal.the-variants.{TableTooShort}
 use Rattle.format.specs.Section.{Section, part, array}
 use Rattle.format.proofs.Fields.{length-words, words-at, field-within}
 use Rattle.fields.proofs.Laws.{fieldAt-stands}
-use Rattle.fields.proofs.Stores.{sets-append}
+use Rattle.fields.proofs.Stores.{sets-append, part-sets-same}
 use Rattle.blocks.specs.Places.{bytesOf, Locates}
 use Rattle.blocks.specs.declared.places.Located.{Located}
 use Rattle.blocks.specs.declared.places.Located.the-variants.{System, Graphics, Refused as NotLocated}
@@ -45,20 +44,25 @@ pub storing-none :
 storing-none w t e h l = record { size = e; fits = h; wide = l; count = omega arith; same = refl; is = refl }
 
 module _ {w : List ℕ} {m room used : ℕ} {t₀ t : List ℕ} {i : ℕ} (s : Storing w m room used t₀ t i) where
-  pub storing-more : {v : ℕ} → i < m → v ≡ getD w i 0 → Storing w m room used t₀ (set t (used + i) v) (i + 1)
-  storing-more {v} l e =
-      let j : i < length w = omega arith in
+  -- the next k
+  pub storing-run :
+      (k : ℕ) {t′ : List ℕ} → i + k ≤ m → t′ ≡ sets t (used + i) (take k (drop i w)) → Storing w m room used t₀ t′ (i + k)
+  storing-run k l e =
       let n : length (take i w) ≡ i = length-take-le i w (omega arith) in
       record {
         size = s .size;
         fits = s .fits;
         wide = s .wide;
-        count = omega arith;
-        same = length-set t (used + i) v ∙ s .same;
-        is =
-            simp (s .is, e, add-one, take-suc w i 0 j)
-            (sym (sets-append (take i w) (getD w i 0 ∷ []) t₀ used ∙ simp n));
+        count = l;
+        same = rw e (length-sets t (used + i) (take k (drop i w)) ∙ s .same);
+        is = e ∙ simp (s .is, take-add i k w) (sym (sets-append (take i w) (take k (drop i w)) t₀ used ∙ simp n));
       }
+
+  -- the next one
+  pub storing-more : {v : ℕ} → i < m → v ≡ getD w i 0 → Storing w m room used t₀ (set t (used + i) v) (i + 1)
+  storing-more {v} l e =
+      let j : i < length w = omega arith in
+      storing-run 1 (omega arith) (rw (e, drop-cons w i 0 j) refl)
 
   -- all are stored
   pub storing-all : m ≤ i → Takes w room used (At used m (used + m)) t₀ t
@@ -87,6 +91,29 @@ part-word s first count i l = sym (getD-take count (drop first s) i 0 l ∙ getD
 
 pub length-part : (s : List ℕ) (first count : ℕ) → first + count ≤ length s → length (take count (drop first s)) ≡ count
 length-part s first count h = length-take-le count (drop first s) (simp length-drop (omega arith))
+
+-- of m words, c from the i-th on
+pub words-run :
+    (k m c : ℕ) (s : List ℕ) (i : ℕ) → i + c ≤ m → words k c (drop (k * i) s) ≡ take c (drop i (words k m s))
+words-run k m c s i h =
+    let w = words k m s in
+    let p = words k c (drop (k * i) s) in
+    let n : length p ≡ c = length-words k c (drop (k * i) s) in
+    ext-getD 0 p (take c (drop i w)) (n ∙ sym (length-part w i c (rw (length-words k m s) h)))
+    λ j l.
+    let q : j < c = omega (arith, n) in
+    words-at k c (drop (k * i) s) j q
+    ∙ ap (λ x. valueOf (take k x)) (drop-drop (k * j) (k * i) s ∙ ap (λ x. drop x s) (sym (mul-add k i j)))
+    ∙ sym (words-at k m s (i + j) (omega arith))
+    ∙ part-word w i c j q
+
+-- of n matrices of sixteen words of 4 bytes, one
+pub matrix-words :
+    (s : List ℕ) (at n row : ℕ) → row < n →
+    words 4 16 (drop (at + 64 * row) s) ≡ take 16 (drop (16 * row) (words 4 (16 * n) (drop at s)))
+matrix-words s at n row h =
+    let e : at + 64 * row ≡ at + 4 * (16 * row) = omega arith in
+    rw (e, ← drop-drop (4 * (16 * row)) at s) (words-run 4 (16 * n) 16 (drop at s) (16 * row) (omega arith))
 
 -- ---- words that do not fit
 
@@ -121,6 +148,22 @@ module _ (s : List ℕ) {first count room used : ℕ} {t₀ : List ℕ} where
   pub copies-past : length s < first + count → Copies s first count room used (Refused TableTooShort) t₀ t₀
   copies-past h = record { copied = λ l. absurd (omega arith) }
 
+-- ---- words that fit
+
+takes-all : {w : List ℕ} {room used : ℕ} {r : Listed} {t₀ t : List ℕ} → used + length w ≤ room → Takes w room used r t₀ t → t ≡ sets t₀ used w
+takes-all {w} {room} {used} h k = rw (le-leb (used + length w) room h) at (k .table)
+
+-- k words that are first stored in b₀, then copied
+pub copied-words :
+    (w : List ℕ) {k room₀ room used : ℕ} {b₀ b t₀ t : List ℕ} {r r′ : Listed} →
+    length w ≡ k → k ≤ room₀ → room₀ ≤ length b₀ → used + k ≤ room →
+    Takes w room₀ 0 r b₀ b → Copies b 0 k room used r′ t₀ t → t ≡ sets t₀ used w
+copied-words w {k} {room₀} {room} {used} {b₀} {b} n h l m a c =
+    let e : b ≡ sets b₀ 0 w = takes-all (omega arith) a in
+    let p : take k (drop 0 b) ≡ w = rw (e, ← n) (part-sets-same w b₀ 0 (omega arith)) in
+    let f : 0 + k ≤ length b = rw e (rw (length-sets b₀ 0 w) (omega arith)) in
+    takes-all (omega arith) (rw p at (c .copied f))
+
 -- ---- arrays
 
 pub arrays-none : (s : Section) (va : ℕ) {n : ℕ} → n ≡ 0 → Arrays s va n (System 0)
@@ -154,6 +197,13 @@ words-part k m s h =
     words-at k m (take (k * m) s) i j
     ∙ sym (field-within k (take (k * m) s) (drop (k * m) s) (k * i) inside)
     ∙ rw (take-append-drop (k * m) s) (sym (words-at k m s i j))
+
+-- those of the code's slice
+pub words-cut :
+    (k m : ℕ) (s : List ℕ) (at n : ℕ) → n ≡ k * m → at + n ≤ length s → words k m (take (at + n - at) (drop at s)) ≡ words k m (drop at s)
+words-cut k m s at n e h =
+    let c : at + n - at ≡ k * m = omega arith in
+    rw c (words-part k m (drop at s) (simp length-drop (omega arith)))
 
 module _ (k m : ℕ) {s : Section} {va : ℕ} {x : Located} (a : Arrays s va (k * m) x) where
   reads-half :

@@ -4,6 +4,7 @@ ghost use mathlib.Core.Path.{_≡_};
 ghost use Prim.Native.Nat.{_+_, _*_, _/_, _≤_};
 ghost use lib.Dec.{ltb};
 ghost use lib.ListN.{length, drop};
+ghost use lib.Seq.{sets};
 ghost use Rattle.format.specs.Field.{words};
 ghost use Rattle.blocks.specs.Places.{section};
 ghost use Rattle.read_lists.specs.Storing.{Arrays, Takes, Copies, ReadsNew};
@@ -12,8 +13,10 @@ use blocks::places;
 use blocks::places::Located;
 use format::Refusal;
 
-// The words of a matrix.
+// The words of a matrix, and its bytes.
 const MATRIX_WORDS: usize = 16;
+
+const MATRIX_SIZE: usize = 64;
 
 // Where the n bytes of an array stand, all of which must: refusals 10, then 11. An empty array is not looked for.
 fn array(sys: &[u8], gfx: &[u8], va: u64, n: usize) -> Located
@@ -31,10 +34,10 @@ pub fn new_matrices(sys: &[u8], gfx: &[u8], va: u64, n: u16, own: &mut [u32], us
         (16 * (length (now (own .entry)) / 16)) used r
         (now (own .entry)) (now (own .exit)) ⌝ }
 {
-    let m = MATRIX_WORDS * (n as usize);
-    match array(sys, gfx, va, 4 * m) {
-        Located::System(o) => load32(sys, o, m, own, used),
-        Located::Graphics(o) => load32(gfx, o, m, own, used),
+    let m = n as usize;
+    match array(sys, gfx, va, 4 * (MATRIX_WORDS * m)) {
+        Located::System(o) => load_matrices(sys, o, m, own, used),
+        Located::Graphics(o) => load_matrices(gfx, o, m, own, used),
         Located::Refused(r) => Listed::Refused(r),
     }
 }
@@ -75,6 +78,36 @@ fn load32(s: &[u8], at: usize, m: usize, own: &mut [u32], used: usize) -> Listed
     while i < m {
         own[used + i] = fields::u32_at(s, at + 4 * i);
         i += 1;
+    }
+    Listed::At(used, m, used + m)
+}
+
+// The matrix that stands in s at `at`, by a copy, which cannot overlap the table, so that its words are loaded and stored at once.
+fn load_matrix(s: &[u8], at: usize, own: &mut [u32], used: usize)
+    requires { ⌜ (at + 64 ≤ length (now s)) × (used + 16 ≤ 16 * (length (now own) / 16)) ⌝ }
+    ensures { λ _. ⌜ now (own .exit) ≡ sets (now (own .entry)) used (words 4 16 (drop at (now (s .entry)))) ⌝ }
+{
+    let mut w = [0u32; 16];
+    let e = at + MATRIX_SIZE;
+    load32(&s[at..e], 0, MATRIX_WORDS, &mut w, 0);
+    copy_matrices(&w, 0, MATRIX_WORDS, own, used);
+}
+
+// n matrices that stand in s from `at` on.
+fn load_matrices(s: &[u8], at: usize, n: usize, own: &mut [u32], used: usize) -> Listed
+    requires { ⌜ at + 4 * (16 * n) ≤ length (now s) ⌝ }
+    ensures { λ r. ⌜ Takes (words 4 (16 * n) (drop at (now (s .entry)))) (16 * (length (now (own .entry)) / 16)) used r
+        (now (own .entry)) (now (own .exit)) ⌝ }
+{
+    let m = MATRIX_WORDS * n;
+    let room = MATRIX_WORDS * (own.len() / MATRIX_WORDS);
+    if runs_past(room, used, m) {
+        return Listed::Refused(Refusal::TableTooShort);
+    }
+    let mut row = 0;
+    while row < n {
+        load_matrix(s, at + MATRIX_SIZE * row, own, used + MATRIX_WORDS * row);
+        row += 1;
     }
     Listed::At(used, m, used + m)
 }

@@ -1,45 +1,16 @@
--- `blocks::pool::cached_as` meets its contract: nothing found, the kind asked for, or another. Assumes nothing.
+-- `blocks::pool::cached_as` meets its contract: what stands in the row where the search ends. Assumes nothing.
 use borrow.Author.Needs.{needs}
-use mathlib.Core.Path.{sym, _∙_}
-use denote.Ref.{now}
-use Rattle.blocks.specs.Kinds.{meantKind}
-use Rattle.blocks.proofs.Table.{cached-nothing, cached-here, cached-other}
 use Rattle.blocks.proofs.pool.cached_as.Statement.{statement}
 use Rattle.blocks.proofs.pool.cached_as.Tie as tie
 
-find-requires : tie.Need-find-requires
-find-requires c κs = search needs
+place-requires : tie.Need-place-requires
+place-requires c κs = search needs
 
-enum-told : tie.Need-enum-told
-enum-told c = search needs
-
-enum-known-k : tie.Need-enum-known-k
-enum-known-k c = search needs
-
-same-requires : tie.Need-same-requires
-same-requires c κs = search needs
+cached-at-requires : tie.Need-cached-at-requires
+cached-at-requires c κs = search needs
 
 returns : tie.Need-returns
-returns c =
-    let f = c .before .before .before .before .before in
-    let a = f .before .before .args in
-    cached-here (now (a .pool)) (meantKind (a .kind)) (a .va) (f .find .ensures) _ _ _ (c .before .before .before .k .given .1)
-    (sym (c .before .same .ensures) ∙ c .if1 .taken)
-
-returns-2 : tie.Need-returns-2
-returns-2 c =
-    let f = c .before .before in
-    let a = f .before .before .args in
-    cached-nothing (now (a .pool)) (meantKind (a .kind)) (a .va) (f .find .ensures) (c .enum-told .given .1)
-
-returns-3 : tie.Need-returns-3
-returns-3 c =
-    let f = c .before .before .before .before .before in
-    let a = f .before .before .args in
-    cached-other (now (a .pool)) (meantKind (a .kind)) (a .va) (f .find .ensures) _ _ _ (c .before .before .before .k .given .1)
-    (sym (c .before .same .ensures) ∙ c .if1 .left)
+returns c = c .cached-at .ensures .at _ (c .before .place .ensures)
 
 pub cached-as-spec : {M : Type 1} → statement M
-cached-as-spec =
-    tie.close
-    (tie.spec find-requires enum-told enum-known-k same-requires returns returns-2 returns-3)
+cached-as-spec = tie.close (tie.spec place-requires cached-at-requires returns)

@@ -10,8 +10,8 @@ name-at-requires c κs = search needs
 enum-known-n : tie.Need-enum-known-n
 enum-known-n c = search needs
 
-put-requires : tie.Need-put-requires
-put-requires c κs = search needs
+put-at-requires : tie.Need-put-at-requires
+put-at-requires c κs = search needs
 
 enum-told : tie.Need-enum-told
 enum-told c = search needs
@@ -30,7 +30,8 @@ returns c =
     let at-put = c .before .before .before .before in
     let at-n = at-put .before .before .before in
     let at-name-at = at-n .before .before in
-    new-name-done _ _ (at-name-at .name-at .ensures) _ (at-n .n .given .1) (at-put .put .ensures) (c .enum-told .given .1)
+    new-name-done _ _ (at-name-at .name-at .ensures) _ (at-n .n .given .1)
+    (at-put .put-at .ensures .at (at-name-at .before .before .before .before .pre)) (c .enum-told .given .1)
 
 same-length-2 : tie.Need-same-length-2
 same-length-2 c = search needs
@@ -40,7 +41,8 @@ returns-2 c =
     let at-put = c .before .before .before .before in
     let at-n = at-put .before .before .before in
     let at-name-at = at-n .before .before in
-    new-name-full _ _ (at-name-at .name-at .ensures) _ (at-n .n .given .1) (at-put .put .ensures) (c .enum-told2 .given .1)
+    new-name-full _ _ (at-name-at .name-at .ensures) _ (at-n .n .given .1)
+    (at-put .put-at .ensures .at (at-name-at .before .before .before .before .pre)) (c .enum-told2 .given .1)
 
 returns-3 : tie.Need-returns-3
 returns-3 c = new-name-refused _ _ (c .before .before .before .name-at .ensures) _ (c .before .n2 .given .1)
@@ -51,7 +53,7 @@ new-name-spec =
     (tie.spec
     name-at-requires
     enum-known-n
-    put-requires
+    put-at-requires
     enum-told
     enum-told-2
     enum-known-n-2

@@ -7,8 +7,11 @@ use Rattle.read_bones.proofs.bone.read_name.Tie as tie
 returns : tie.Need-returns
 returns c = no-name _ _ (c .if1 .taken)
 
-cached-as-requires : tie.Need-cached-as-requires
-cached-as-requires c κs = search needs
+place-requires : tie.Need-place-requires
+place-requires c κs = search needs
+
+cached-at-requires : tie.Need-cached-at-requires
+cached-at-requires c κs = search needs
 
 enum-told : tie.Need-enum-told
 enum-told c = search needs
@@ -29,10 +32,11 @@ returns-2 : tie.Need-returns-2
 returns-2 c =
     let at-new-name = c .before .before in
     let at-enum-told = at-new-name .before .before in
-    let at-cached-as = at-enum-told .before .before in
-    let at-if1 = at-cached-as .before .before in
-    name-unread (at-if1 .if1 .left) (at-cached-as .cached-as .ensures) (at-enum-told .enum-told .given .1)
-    (at-new-name .new-name .ensures)
+    let at-cached-at = at-enum-told .before .before in
+    let at-place = at-cached-at .before .before in
+    let at-if1 = at-place .before .before in
+    name-unread (at-if1 .if1 .left) (at-cached-at .cached-at .ensures .at _ (at-place .place .ensures))
+    (at-enum-told .enum-told .given .1) (at-new-name .new-name .ensures)
 
 same-length-2 : tie.Need-same-length-2
 same-length-2 c = search needs
@@ -40,9 +44,10 @@ same-length-2 c = search needs
 returns-3 : tie.Need-returns-3
 returns-3 c =
     let at-address = c .before in
-    let at-cached-as = at-address .before .before in
-    let at-if1 = at-cached-as .before .before in
-    name-again (at-if1 .if1 .left) (at-cached-as .cached-as .ensures) (at-address .address .given .1)
+    let at-cached-at = at-address .before .before in
+    let at-place = at-cached-at .before .before in
+    let at-if1 = at-place .before .before in
+    name-again (at-if1 .if1 .left) (at-cached-at .cached-at .ensures .at _ (at-place .place .ensures)) (at-address .address .given .1)
 
 same-length-3 : tie.Need-same-length-3
 same-length-3 c = search needs
@@ -50,16 +55,18 @@ same-length-3 c = search needs
 returns-4 : tie.Need-returns-4
 returns-4 c =
     let at-r = c .before in
-    let at-cached-as = at-r .before .before in
-    let at-if1 = at-cached-as .before .before in
-    name-other (at-if1 .if1 .left) (at-cached-as .cached-as .ensures) (at-r .r .given .1)
+    let at-cached-at = at-r .before .before in
+    let at-place = at-cached-at .before .before in
+    let at-if1 = at-place .before .before in
+    name-other (at-if1 .if1 .left) (at-cached-at .cached-at .ensures .at _ (at-place .place .ensures)) (at-r .r .given .1)
 
 pub read-name-spec : {M : Type 1} → statement M
 read-name-spec =
     tie.close
     (tie.spec
     returns
-    cached-as-requires
+    place-requires
+    cached-at-requires
     enum-told
     new-name-requires
     enum-known-address

@@ -7,8 +7,11 @@ use Rattle.read_chains.proofs.chains.link_to.Tie as tie
 returns : tie.Need-returns
 returns c = links-zero _ _ (c .if1 .taken)
 
-cached-as-requires : tie.Need-cached-as-requires
-cached-as-requires c κs = search needs
+place-requires : tie.Need-place-requires
+place-requires c κs = search needs
+
+cached-at-requires : tie.Need-cached-at-requires
+cached-at-requires c κs = search needs
 
 enum-told : tie.Need-enum-told
 enum-told c = search needs
@@ -25,29 +28,34 @@ enum-known-r c = search needs
 returns-2 : tie.Need-returns-2
 returns-2 c =
     let f = c .before .before in
-    let i = f .before in
-    links-unread (i .if1 .left) (f .cached-as .ensures) (c .enum-told .given .1)
+    let g = f .before in
+    let i = g .before in
+    links-unread (i .if1 .left) (f .cached-at .ensures .at _ (g .place .ensures)) (c .enum-told .given .1)
+    (g .place .ensures)
 
 returns-3 : tie.Need-returns-3
 returns-3 c =
     let x = c .before .before in
     let f = x .before .before in
-    let i = f .before in
-    links-read (i .if1 .left) (f .cached-as .ensures) (x .first .given .1) (c .link-of .ensures)
+    let g = f .before in
+    let i = g .before in
+    links-read (i .if1 .left) (f .cached-at .ensures .at _ (g .place .ensures)) (x .first .given .1) (c .link-of .ensures)
 
 returns-4 : tie.Need-returns-4
 returns-4 c =
     let x = c .before in
     let f = x .before .before in
-    let i = f .before in
-    links-other (i .if1 .left) (f .cached-as .ensures) (x .r .given .1)
+    let g = f .before in
+    let i = g .before in
+    links-other (i .if1 .left) (f .cached-at .ensures .at _ (g .place .ensures)) (x .r .given .1)
 
 pub link-to-spec : {M : Type 1} → statement M
 link-to-spec =
     tie.close
     (tie.spec
     returns
-    cached-as-requires
+    place-requires
+    cached-at-requires
     enum-told
     enum-known-first
     link-of-requires

@@ -4,36 +4,37 @@ use Prim.Native.Nat.{_-_}
 use native.Mathlib.Omega.{arith}
 use mathlib.Core.Path.{ap}
 use Rattle.blocks.specs.Places.{section}
+use Rattle.blocks.specs.Hashed.{Placed}
 use Rattle.read_chains.specs.Lent.{entryRoom}
-use Rattle.read_chains.proofs.Chaining.{Chaining, chaining-none, chaining-full, chaining-end, chaining-lost, chaining-next}
+use Rattle.read_chains.proofs.Chaining.{Chaining, chaining-none, chaining-full, chaining-end, chaining-lost, chaining-next, next-placed}
 use Rattle.read_chains.proofs.chains.read_chain.Statement.{statement}
 use Rattle.read_chains.proofs.chains.read_chain.Tie as tie
 
 abbrev Inv-loop : tie.InvT-loop
-Inv-loop sys gfx va entries₀ used pool₀ n at₀ row₀ entries pool at row =
-    Chaining (section sys gfx) va used at row entries₀ entries pool₀ pool
+Inv-loop sys gfx va i entries₀ used pool₀ n at₀ free₀ row₀ entries pool at free row =
+    Chaining (section sys gfx) va used at row entries₀ entries pool₀ pool × Placed pool at free
 
 abbrev μ-loop : tie.MeasureT-loop
-μ-loop sys gfx va entries₀ used pool₀ n at₀ row₀ entries pool at row = n - row
+μ-loop sys gfx va i entries₀ used pool₀ n at₀ free₀ row₀ entries pool at free row = n - row
 
 rows-requires : tie.Need-rows-requires Inv-loop μ-loop
 rows-requires c κs = search needs
 
 loop-holds : tie.Need-loop-holds Inv-loop μ-loop
-loop-holds c = chaining-none _ _ _ _ _
+loop-holds c = (chaining-none _ _ _ _ _, c .before .before .before .before .before .pre)
 
 read-entry-requires : tie.Need-read-entry-requires Inv-loop μ-loop
 read-entry-requires c κs =
     let t = c .before .before in
     let l = t .before in
     let n = l .before in
-    omega (arith, t .loop-test .taken, n .rows .ensures, ap entryRoom (l .loop .inv .same))
+    (omega (arith, t .loop-test .taken, n .rows .ensures, ap entryRoom (l .loop .inv .0 .same)), l .loop .inv .1)
 
 enum-told : tie.Need-enum-told Inv-loop μ-loop
 enum-told c = search needs
 
-add-t19 : tie.Need-add-t19 Inv-loop μ-loop
-add-t19 c = search needs
+add-t22 : tie.Need-add-t22 Inv-loop μ-loop
+add-t22 c = search needs
 
 same-length : tie.Need-same-length Inv-loop μ-loop
 same-length c = search needs
@@ -47,7 +48,7 @@ returns c =
     let t = m .before .before .before in
     let l = t .before in
     let n = l .before in
-    chaining-end (l .loop .inv) (omega (arith, t .loop-test .taken, n .rows .ensures)) (m .read-entry .ensures)
+    chaining-end (l .loop .inv .0) (omega (arith, t .loop-test .taken, n .rows .ensures)) (m .read-entry .ensures)
     (c .enum-told .given .1)
 
 enum-known-s : tie.Need-enum-known-s Inv-loop μ-loop
@@ -65,9 +66,12 @@ loop-again c =
     let m = x .before .before .before .before .before .before in
     let t = m .before .before .before in
     let l = t .before in
-    let n = l .before in
-    chaining-next (l .loop .inv) (omega (arith, t .loop-test .taken, n .rows .ensures)) (m .read-entry .ensures)
-    (x .s .given .1) (m .read-entry .kept .1 .1 .1 .0) (m .read-entry .kept .1 .1 .1 .1 .1 .0)
+    let n = l .before in (
+      chaining-next (l .loop .inv .0) (omega (arith, t .loop-test .taken, n .rows .ensures)) (m .read-entry .ensures)
+          (x .s .given .1) (m .read-entry .kept .1 .1 .1 .1 .0) (m .read-entry .kept .1 .1 .1 .1 .1 .1 .0),
+      next-placed (l .loop .inv .0) (omega (arith, t .loop-test .taken, n .rows .ensures)) (m .read-entry .ensures)
+          (x .s .given .1),
+    )
 
 enum-known-s-2 : tie.Need-enum-known-s-2 Inv-loop μ-loop
 enum-known-s-2 c = search needs
@@ -85,7 +89,7 @@ returns-2 c =
     let t = m .before .before .before in
     let l = t .before in
     let n = l .before in
-    chaining-lost (l .loop .inv) (omega (arith, t .loop-test .taken, n .rows .ensures)) (m .read-entry .ensures)
+    chaining-lost (l .loop .inv .0) (omega (arith, t .loop-test .taken, n .rows .ensures)) (m .read-entry .ensures)
     (x .s2 .given .1)
 
 no-row-requires : tie.Need-no-row-requires Inv-loop μ-loop
@@ -102,7 +106,7 @@ returns-3 c =
     let t = c .before in
     let l = t .before in
     let n = l .before in
-    chaining-full (l .loop .inv) (omega (arith, t .loop-test .left, n .rows .ensures)) (c .no-row .ensures)
+    chaining-full (l .loop .inv .0) (omega (arith, t .loop-test .left, n .rows .ensures)) (c .no-row .ensures)
 
 pub read-chain-spec : {M : Type 1} → statement M
 read-chain-spec =
@@ -114,7 +118,7 @@ read-chain-spec =
     loop-holds
     read-entry-requires
     enum-told
-    add-t19
+    add-t22
     same-length
     same-length-2
     returns

@@ -17,8 +17,8 @@ enum-known-f c = search needs
 enum-known-f-2 : tie.Need-enum-known-f-2
 enum-known-f-2 c = search needs
 
-put-requires : tie.Need-put-requires
-put-requires c κs = search needs
+put-at-requires : tie.Need-put-at-requires
+put-at-requires c κs = search needs
 
 enum-told : tie.Need-enum-told
 enum-told c = search needs
@@ -31,7 +31,8 @@ returns c =
     let p = c .before .before .before .before in
     let f = p .before .before .before in
     let e = f .before .before in
-    step-full _ _ _ (e .entry-at .ensures) (f .f2 .given .1) (p .put .ensures) (c .enum-told .given .1)
+    let s = e .before .before .before .before .before in
+    step-full _ _ _ (e .entry-at .ensures) (f .f2 .given .1) (p .put-at .ensures .at (s .pre .1)) (c .enum-told .given .1)
 
 enum-told-2 : tie.Need-enum-told-2
 enum-told-2 c = search needs
@@ -45,16 +46,16 @@ enum-known-l c = search needs
 store-requires : tie.Need-store-requires
 store-requires c κs = search needs
 
-enum-told-3 : tie.Need-enum-told-3
-enum-told-3 c = search needs
+enum-known-l-2 : tie.Need-enum-known-l-2
+enum-known-l-2 c = search needs
 
 add-link-of : tie.Need-add-link-of
 add-link-of c =
-    let l = c .before .before in
+    let l = c .before .before .before in
     let p = l .before .before .before .before .before .before in
     let e = p .before .before .before .before .before in
     let s = e .before .before .before .before .before in
-    omega (arith, s .pre, room-most (length (now (s .args .entries))))
+    omega (arith, s .pre .0, room-most (length (now (s .args .entries))))
 
 link-of-requires : tie.Need-link-of-requires
 link-of-requires c κs = search needs
@@ -62,8 +63,8 @@ link-of-requires c κs = search needs
 store-requires-2 : tie.Need-store-requires-2
 store-requires-2 c κs = search needs
 
-enum-known-l-2 : tie.Need-enum-known-l-2
-enum-known-l-2 c = search needs
+enum-known-l-3 : tie.Need-enum-known-l-3
+enum-known-l-3 c = search needs
 
 returns-2 : tie.Need-returns-2
 returns-2 c =
@@ -87,7 +88,7 @@ returns-3 c =
     let f = p .before .before .before in
     let e = f .before .before in
     let s = e .before .before .before .before .before in
-    step-end _ _ _ (e .entry-at .ensures) (f .f2 .given .1) (p .put .ensures) (d .enum-told2 .given .1) (s .pre)
+    step-end _ _ _ (e .entry-at .ensures) (f .f2 .given .1) (p .put-at .ensures .at (s .pre .1)) (d .enum-told2 .given .1) (s .pre .0)
     (k .link-to .ensures) (l .l .given .1) (w .store .ensures)
 
 same-length-4 : tie.Need-same-length-4
@@ -100,15 +101,15 @@ returns-4 : tie.Need-returns-4
 returns-4 c =
     let w = c .before .before in
     let o = w .before .before in
-    let l = o .before in
+    let l = o .before .before in
     let k = l .before .before in
     let d = k .before .before in
     let p = d .before .before .before .before in
     let f = p .before .before .before in
     let e = f .before .before in
     let s = e .before .before .before .before .before in
-    step-next _ _ _ (e .entry-at .ensures) (f .f2 .given .1) (p .put .ensures) (d .enum-told2 .given .1) (s .pre)
-    (k .link-to .ensures) (l .enum-told3 .given .1) (o .link-of .ensures) (w .store2 .ensures)
+    step-next _ _ _ (e .entry-at .ensures) (f .f2 .given .1) (p .put-at .ensures .at (s .pre .1)) (d .enum-told2 .given .1) (s .pre .0)
+    (k .link-to .ensures) (l .l2 .given .1) (o .link-of .ensures) (w .store2 .ensures)
 
 same-length-6 : tie.Need-same-length-6
 same-length-6 c = search needs
@@ -122,8 +123,8 @@ returns-5 c =
     let f = p .before .before .before in
     let e = f .before .before in
     let s = e .before .before .before .before .before in
-    step-other _ _ _ (e .entry-at .ensures) (f .f2 .given .1) (p .put .ensures) (d .enum-told2 .given .1) (s .pre)
-    (k .link-to .ensures) (l .l2 .given .1)
+    step-other _ _ _ (e .entry-at .ensures) (f .f2 .given .1) (p .put-at .ensures .at (s .pre .1)) (d .enum-told2 .given .1) (s .pre .0)
+    (k .link-to .ensures) (l .l3 .given .1)
 
 pub read-entry-spec : {M : Type 1} → statement M
 read-entry-spec =
@@ -132,7 +133,7 @@ read-entry-spec =
     entry-at-requires
     enum-known-f
     enum-known-f-2
-    put-requires
+    put-at-requires
     enum-told
     same-length
     returns
@@ -140,11 +141,11 @@ read-entry-spec =
     link-to-requires
     enum-known-l
     store-requires
-    enum-told-3
+    enum-known-l-2
     add-link-of
     link-of-requires
     store-requires-2
-    enum-known-l-2
+    enum-known-l-3
     returns-2
     same-length-2
     same-length-3

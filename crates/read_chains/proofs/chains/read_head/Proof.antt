@@ -1,6 +1,6 @@
 -- `read_chains::chains::read_head` meets its contract: a link that is known, or a chain that is read. Assumes nothing.
 use borrow.Author.Needs.{needs}
-use Rattle.read_chains.proofs.Chaining.{head-known, head-other, head-new, head-lost}
+use Rattle.read_chains.proofs.Chaining.{link-placed, head-known, head-other, head-new, head-lost}
 use Rattle.read_chains.proofs.chains.read_head.Statement.{statement}
 use Rattle.read_chains.proofs.chains.read_head.Tie as tie
 
@@ -13,11 +13,13 @@ enum-known-l c = search needs
 enum-known-l-2 : tie.Need-enum-known-l-2
 enum-known-l-2 c = search needs
 
-enum-told : tie.Need-enum-told
-enum-told c = search needs
+enum-known-l-3 : tie.Need-enum-known-l-3
+enum-known-l-3 c = search needs
 
 read-chain-requires : tie.Need-read-chain-requires
-read-chain-requires c κs = search needs
+read-chain-requires c κs =
+    let u = c .before .before .before in
+    link-placed (u .before .before .link-to .ensures) (u .l3 .given .1)
 
 enum-known-c : tie.Need-enum-known-c
 enum-known-c c = search needs
@@ -56,9 +58,9 @@ returns-3 : tie.Need-returns-3
 returns-3 c =
     let x = c .before .before in
     let m = x .before .before .before .before .before .before in
-    let u = m .before .before .before in
+    let u = m .before .before .before .before in
     let k = u .before .before in
-    head-new _ (k .link-to .ensures) (u .enum-told .given .1) (m .read-chain .ensures) (x .c .given .1)
+    head-new _ (k .link-to .ensures) (u .l3 .given .1) (m .read-chain .ensures) (x .c .given .1)
     (c .link-of .ensures)
 
 same-length-5 : tie.Need-same-length-5
@@ -71,9 +73,9 @@ returns-4 : tie.Need-returns-4
 returns-4 c =
     let x = c .before in
     let m = x .before .before .before .before .before .before in
-    let u = m .before .before .before in
+    let u = m .before .before .before .before in
     let k = u .before .before in
-    head-lost _ (k .link-to .ensures) (u .enum-told .given .1) (m .read-chain .ensures) (x .c2 .given .1)
+    head-lost _ (k .link-to .ensures) (u .l3 .given .1) (m .read-chain .ensures) (x .c2 .given .1)
 
 pub read-head-spec : {M : Type 1} → statement M
 read-head-spec =
@@ -82,7 +84,7 @@ read-head-spec =
     link-to-requires
     enum-known-l
     enum-known-l-2
-    enum-told
+    enum-known-l-3
     read-chain-requires
     enum-known-c
     link-of-requires
