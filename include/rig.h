@@ -204,6 +204,14 @@ uint32_t rig_build_indices(const uint32_t *bones, size_t bones_len, size_t n, ui
 uint32_t rig_build_transformations(const uint32_t *bones, size_t bones_len, size_t n, uint32_t *inverse, size_t inverse_len,
                                    uint32_t *local, size_t local_len);
 
+/* ---- matrices ---- */
+
+/* Sets the diagonal of a matrix: floats 0, 5 and 10 of `m` are `s`, and every other is as it was. */
+void rig_set_scale_vector(float m[RIG_MATRIX_WORDS], const float s[3]);
+
+/* Sets column 4 of a matrix: floats 3, 7, 11 and 15 of `m` are `v`, and every other is as it was. */
+void rig_set_column4(float m[RIG_MATRIX_WORDS], const float v[4]);
+
 /* ---- a skeleton's section ---- */
 
 /* What rig_read puts into `fields`. A part whose pointer is 0 does not stand (of the bones: 0 or 16). */

@@ -11,6 +11,7 @@ void bones_by_hand(void);
 void fields(void);
 void bucket_counts(void);
 void hashes(void);
+void matrices(void);
 void joints(void);
 
 #endif

@@ -59,6 +59,7 @@ LENDER(shorts, uint16_t)
 LENDER(words, uint32_t)
 LENDER(longs, uint64_t)
 LENDER(sizes, size_t)
+LENDER(floats, float)
 
 void keep(void)
 {

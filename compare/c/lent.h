@@ -12,6 +12,7 @@ struct shorts { uint16_t *at; size_t len; };
 struct words { uint32_t *at; size_t len; };
 struct longs { uint64_t *at; size_t len; };
 struct sizes { size_t *at; size_t len; };
+struct floats { float *at; size_t len; };
 
 /* a table as the two arguments that the library takes */
 #define LENT(table) (table).at, (table).len
@@ -22,6 +23,7 @@ struct shorts lend_shorts(const char *name, size_t len);
 struct words lend_words(const char *name, size_t len);
 struct longs lend_longs(const char *name, size_t len);
 struct sizes lend_sizes(const char *name, size_t len);
+struct floats lend_floats(const char *name, size_t len);
 
 /* From now on all that is lent is for reading: every expectation also asks that it is as it is now. */
 void keep(void);

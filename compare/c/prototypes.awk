@@ -1,4 +1,5 @@
-# The exports of crates/rig/src as C prototypes, one on each line: a slice is a pointer, then a length; the size of an array is left out.
+# The exports of crates/rig/src as C prototypes, one on each line: a slice is a pointer, then a length; a
+# matrix or a vector is an array of floats; the size of an array is left out.
 BEGIN {
     split("u8 uint8_t u16 uint16_t u32 uint32_t u64 uint64_t usize size_t bool bool", pairs, " ")
     for (i = 1; i in pairs; i += 2) c[pairs[i]] = pairs[i + 1]
@@ -12,6 +13,7 @@ function parameter(text,   name, type, constant) {
     if (type !~ /^&/) return c[type] " " name
     constant = type ~ /^&mut / ? "" : "const "
     sub(/^&(mut )?/, "", type)
+    if (type ~ /^(Mat4|Vec[34])$/) return constant "float " name "[]"
     if (type !~ /^\[/) return constant c[type] " *" name
     gsub(/[][]/, "", type)
     if (sub(/;.*/, "", type)) return constant c[type] " " name "[]"

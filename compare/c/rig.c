@@ -18,6 +18,7 @@ int main(int argc, char **argv)
     fields();
     bucket_counts();
     hashes();
+    matrices();
     joints();
     whole_horse(argv[1]);
     cut_horse(argv[2]);

@@ -1,4 +1,4 @@
-/* Fields, bucket counts, hashes and joints. */
+/* Fields, bucket counts, hashes, matrices and joints. */
 #include "checks.h"
 #include "lent.h"
 #include "rig.h"
@@ -59,6 +59,34 @@ void hashes(void)
         keep();
         expect_number(rig_rage_joaat(LENT(s)), known[i].hash, "rig_rage_joaat of \"%s\"", known[i].name);
     }
+    give_back();
+}
+
+/* ---- matrices ---- */
+
+/* Expects the vector at these places of the matrix, and all else dirty. */
+static void expect_set(struct floats m, struct floats v, const size_t *places, size_t n, const char *call)
+{
+    float wanted[RIG_MATRIX_WORDS];
+    memset(wanted, DIRT, sizeof wanted);
+    for (size_t i = 0; i < n; i++)
+        wanted[places[i]] = v.at[i];
+    expect(same(m.at, wanted, sizeof wanted), "the matrix after %s", call);
+}
+
+void matrices(void)
+{
+    static const size_t diagonal[] = {0, 5, 10}, column4[] = {3, 7, 11, 15};
+    struct floats v = lend_floats("a vector", 4);
+    for (size_t i = 0; i < v.len; i++)
+        v.at[i] = 0.5f + (float)i;
+    keep();
+    struct floats m = lend_floats("a matrix", RIG_MATRIX_WORDS);
+    rig_set_scale_vector(m.at, v.at);
+    expect_set(m, v, diagonal, 3, "rig_set_scale_vector");
+    soil();
+    rig_set_column4(m.at, v.at);
+    expect_set(m, v, column4, 4, "rig_set_column4");
     give_back();
 }
 

@@ -4,10 +4,11 @@
 use std::path::PathBuf;
 
 /// Each group and one of its exports.
-const GROUPS: [(&str, &str); 6] = [
+const GROUPS: [(&str, &str); 7] = [
     ("rig_fields", "rig_u16_at"),
     ("rig_derive", "rig_build_indices"),
     ("rig_hash", "rig_rage_joaat"),
+    ("rig_setters", "rig_set_column4"),
     ("rig_joints", "rig_joints_read"),
     ("rig_skeletons", "rig_read"),
     ("rig_checks", "rig_check"),

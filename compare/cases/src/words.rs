@@ -2,7 +2,7 @@
 
 use crate::rng::Rng;
 
-const SPECIAL: [u32; 22] = [
+pub const SPECIAL: [u32; 22] = [
     0x0000_0000, // +0
     0x8000_0000, // -0
     0x3F80_0000, // 1

@@ -17,6 +17,7 @@ mod program;
 mod readings;
 mod rigs;
 mod self_test;
+mod setters;
 mod share;
 mod skeletons;
 mod smaller;
@@ -88,6 +89,7 @@ fn ours(o: &Options, failures: &Path) -> Result<(), String> {
     let calls = extent.of([2_000, 300_000, 6_000_000]) as usize;
     compared(o, "fields", "calls", link::fields(), |l| Ok(fields::run(l, failures, seed, calls)?))?;
     compared(o, "hash", "names", link::hash(), |l| Ok(hash::run(l, failures, seed, extent)?))?;
+    compared(o, "setters", "calls", link::setters(), |l| Ok(setters::run(l, failures, seed, extent)?))?;
     compared(o, "deriving", "", link::derive(), |l| {
         let tally = derived::run(l, failures, seed, extent, threads)?;
         shown(o, tally, |tally| {

@@ -5,6 +5,7 @@ mod derive;
 mod fields;
 mod joints;
 mod program;
+mod setters;
 mod skeleton_read;
 mod skeleton_write;
 mod skeletons;
@@ -24,6 +25,7 @@ pub fn run(folder: &Path) -> Result<usize, String> {
     Ok(1 + single_fields(folder)?
         + deriving(folder)?
         + hashing(folder)?
+        + setting(folder)?
         + limits(folder)?
         + sections(folder)?
         + checked(folder)?
@@ -61,6 +63,19 @@ fn hashing(folder: &Path) -> Result<usize, String> {
     none(hash::run(&derive::Faulty(None), folder, 1, Test))?;
     stored(hash::run(&derive::Faulty(Some(derive::Fault::HashByte)), folder, 1, Test), "a wrong hash")?;
     Ok(1)
+}
+
+fn setting(folder: &Path) -> Result<usize, String> {
+    none(crate::setters::run(&setters::Faulty(None), folder, 1, Test))?;
+    for fault in setters::FAULTS {
+        let d = stored(crate::setters::run(&setters::Faulty(Some(fault)), folder, 1, Test), &format!("{fault:?}"))?;
+        // each fault shows in one word, the others being 0
+        let lent = d.text.lines().filter(|l| l.starts_with("matrix ") || l.starts_with("vector "));
+        if lent.flat_map(|l| l.split(' ').skip(1)).filter(|&word| word != "0").count() > 1 {
+            return Err(format!("self-test: {fault:?} was not shrunk:\n{}", d.text));
+        }
+    }
+    Ok(setters::FAULTS.len())
 }
 
 fn limits(folder: &Path) -> Result<usize, String> {

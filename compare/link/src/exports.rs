@@ -13,6 +13,8 @@ mod fields;
 mod hash;
 #[cfg(rig_joints)]
 mod joints;
+#[cfg(rig_setters)]
+mod setters;
 #[cfg(rig_skeletons)]
 mod skeletons;
 

@@ -46,6 +46,12 @@ pub trait Hash: Sync {
     fn rage_joaat(&self, s: &[u8]) -> u32;
 }
 
+/// The setters of a matrix. A matrix is its sixteen float words, a vector its three or four.
+pub trait Setters: Sync {
+    fn set_scale_vector(&self, m: &mut [u32; 16], s: &[u32; 3]);
+    fn set_column4(&self, m: &mut [u32; 16], v: &[u32; 4]);
+}
+
 /// The kind word, the two stored counts, and for each list whether it stands and how many limits it has.
 pub type JointFields = [u32; 7];
 
@@ -132,6 +138,7 @@ groups! {
     fields: Fields if rig_fields;
     derive: Derive if rig_derive;
     hash: Hash if rig_hash;
+    setters: Setters if rig_setters;
     joints: Joints if rig_joints;
     skeletons: Skeletons if rig_skeletons;
     checks: Checks if rig_checks;

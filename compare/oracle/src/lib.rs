@@ -16,6 +16,7 @@ mod prepared_check;
 mod read;
 mod refusal;
 mod rows;
+mod setters;
 mod write;
 
 pub use bone::{Bone, Matrix};
@@ -35,4 +36,5 @@ pub use rage_formats::resource::{ResReader, GRAPHICS_BASE, SYSTEM_BASE};
 pub use read::{read, Answer, Entry, Reading};
 pub use refusal::number;
 pub use rows::{read_rows, Rows};
+pub use setters::{set_column4, set_scale_vector};
 pub use write::{names_fit, write, Written};

@@ -1,2 +1,5 @@
 pub mod Words
 pub mod Sizes
+pub mod Set
+pub mod Called
+pub mod Setter

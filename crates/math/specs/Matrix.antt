@@ -1,7 +1,9 @@
 -- Matrices of sixteen floats, row by row: `Mat4` of `src/math.rs`, but for its inverse.
 -- Definitions only.
 use Prim.Native.Nat.{ℕ}
+use mathlib.Core.Bool.{cond}
 use mathlib.Core.List.{List, [], _∷_, map}
+use lib.Dec.{eqb}
 use lib.ListN.{getD, set}
 use lib.Ieee.{Float, nan}
 use Rattle.math.specs.F32.{_⊕_, _⊖_, _⊗_, 0·0, 1·0, 2·0}
@@ -49,6 +51,14 @@ module _ {A : Type 0} where
 
   abbrev pub setColumn4 : A → A → A → A → List A → List A
   setColumn4 x y z w m = set (set (set (set m 3 x) 7 y) 11 z) 15 w
+
+  -- Word i after each setter, where a was: the words named are the value's, and every other is a. proofs/Set.antt has it that each setter leaves
+  -- just these in sixteen words (`set-diagonal-word`, `set-column4-word`).
+  abbrev pub diagonalWord : A → A → A → ℕ → A → A
+  diagonalWord x y z i a = cond (eqb i 10) z (cond (eqb i 5) y (cond (eqb i 0) x a))
+
+  abbrev pub column4Word : A → A → A → A → ℕ → A → A
+  column4Word x y z w i a = cond (eqb i 15) w (cond (eqb i 11) z (cond (eqb i 7) y (cond (eqb i 3) x a)))
 
 -- the sixteen words of a matrix, a NaN as 7FC00000 hex
 abbrev pub matrixWords : Mat4 → List ℕ

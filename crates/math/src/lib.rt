@@ -7,12 +7,15 @@ mod inverse; // the inverse of a `Mat4`
 ghost use mathlib.Core.Path.{_≡_};
 ghost use Rattle.math.specs.Word.{floatOf, wordOf};
 
+// Each is laid out as in C, so that C can lend one.
+#[repr(C)]
 pub struct Vec3 {
     pub x: f32,
     pub y: f32,
     pub z: f32,
 }
 
+#[repr(C)]
 pub struct Vec4 {
     pub x: f32,
     pub y: f32,
@@ -21,6 +24,7 @@ pub struct Vec4 {
 }
 
 // Sixteen floats in row-major order, the translation in the fourth row.
+#[repr(C)]
 pub struct Mat4(pub [f32; 16]);
 
 const SIGN_BIT: u32 = 0x8000_0000;

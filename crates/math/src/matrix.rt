@@ -86,6 +86,22 @@ impl Mat4 {
         m
     }
 
+    // Sets the diagonal: words 0, 5, 10 of the matrix are s, and every other is as it was.
+    pub fn set_scale_vector(&mut self, s: Vec3)
+        ensures matrix { λ _. ⌜ now (self .exit) .0 ≡ setDiagonal (s .x) (s .y) (s .z) (now (self .entry) .0) ⌝ }
+    {
+        let m = *self;
+        *self = m.with_scale_vector(s);
+    }
+
+    // Sets column 4: words 3, 7, 11, 15 of the matrix are v, and every other is as it was.
+    pub fn set_column4(&mut self, v: Vec4)
+        ensures matrix { λ _. ⌜ now (self .exit) .0 ≡ setColumn4 (v .x) (v .y) (v .z) (v .w) (now (self .entry) .0) ⌝ }
+    {
+        let m = *self;
+        *self = m.with_column4(v);
+    }
+
     // The sixteen words of the matrix, 7FC00000 hex for each NaN.
     pub fn words(self) -> [u32; 16]
         ensures answer { λ r. ⌜ r ≡ matrixWords self ⌝ }

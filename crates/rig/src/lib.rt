@@ -4,6 +4,7 @@ ghost use mathlib.Core.Path.{_≡_};
 ghost use Rattle.format.specs.Field.{stands, fieldAt, putAt};
 ghost use Rattle.fields.specs.Placed.{placed};
 
+mod setters; // the setters of a matrix
 mod derived; // the tables that follow from the bones
 mod names; // the hash of a name, and the name search
 mod limits; // joints
