@@ -16,6 +16,7 @@ int main(int argc, char **argv)
         return 2;
     }
     fields();
+    cursor();
     bucket_counts();
     hashes();
     matrices();

@@ -1,4 +1,4 @@
-/* Fields, bucket counts, hashes, matrices and joints. */
+/* Fields, a cursor, bucket counts, hashes, matrices and joints. */
 #include "checks.h"
 #include "lent.h"
 #include "rig.h"
@@ -35,6 +35,47 @@ void fields(void)
             field_at(d, at);
         field_at(d, SIZE_MAX);
     }
+    give_back();
+}
+
+/* ---- a cursor over bytes 1, 2, 3 and so on ---- */
+
+static void cursor_from(struct bytes s, size_t pos, size_t n, const uint64_t wanted[RIG_CURSOR_NUMBERS])
+{
+    struct longs out = lend_longs("the numbers", RIG_CURSOR_NUMBERS + 1);
+    expect_number(rig_cursor(LENT(s), pos, RIG_SYSTEM_BASE, n, LENT(out)), true, "rig_cursor from %zu", pos);
+    expect(same(out.at, wanted, RIG_CURSOR_NUMBERS * sizeof *wanted), "the numbers of rig_cursor from %zu", pos);
+    expect(all(out.at + RIG_CURSOR_NUMBERS, DIRT, sizeof *out.at), "the word behind the numbers of rig_cursor from %zu", pos);
+    soil();
+    expect_number(rig_cursor(LENT(s), pos, RIG_SYSTEM_BASE, n, out.at, RIG_CURSOR_NUMBERS - 1), false, "rig_cursor without room");
+    expect(all(out.at, DIRT, out.len * sizeof *out.at), "the words of rig_cursor without room");
+}
+
+void cursor(void)
+{
+    static const uint64_t whole[RIG_CURSOR_NUMBERS] = {
+        [RIG_CURSOR_U8] = 0x01,
+        [RIG_CURSOR_U16] = 0x0302,
+        [RIG_CURSOR_I16] = 0x0504,
+        [RIG_CURSOR_U32] = 0x09080706,
+        [RIG_CURSOR_U64] = UINT64_C(0x14131211100F0E0D),
+        [RIG_CURSOR_F32] = 0x18171615,
+        [RIG_CURSOR_VEC3] = 0x1C1B1A19, 0x201F1E1D, 0x24232221,
+        [RIG_CURSOR_VEC4] = 0x28272625, 0x2C2B2A29, 0x302F2E2D, 0x34333231,
+        [RIG_CURSOR_VA] = RIG_SYSTEM_BASE + 52,
+        [RIG_CURSOR_STATUS] = RIG_OK,
+    };
+    static const uint64_t past[RIG_CURSOR_NUMBERS] = {
+        [RIG_CURSOR_U8] = 0x34,
+        [RIG_CURSOR_VA] = RIG_SYSTEM_BASE + 103,
+        [RIG_CURSOR_STATUS] = RIG_PAST_THE_END,
+    };
+    struct bytes s = lend_bytes("bytes", 52);
+    for (size_t i = 0; i < s.len; i++)
+        s.at[i] = (uint8_t)(i + 1);
+    keep();
+    cursor_from(s, 0, 3, whole);
+    cursor_from(s, 51, 3, past);
     give_back();
 }
 

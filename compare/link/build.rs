@@ -4,8 +4,9 @@
 use std::path::PathBuf;
 
 /// Each group and one of its exports.
-const GROUPS: [(&str, &str); 7] = [
+const GROUPS: [(&str, &str); 8] = [
     ("rig_fields", "rig_u16_at"),
+    ("rig_cursor", "rig_cursor"),
     ("rig_derive", "rig_build_indices"),
     ("rig_hash", "rig_rage_joaat"),
     ("rig_setters", "rig_set_column4"),

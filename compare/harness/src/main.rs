@@ -1,6 +1,7 @@
 //! Runs the published Rust over generated cases, and our library against it.
 
 mod checks;
+mod cursor;
 mod damaged;
 mod derived;
 mod difference;
@@ -88,6 +89,7 @@ fn ours(o: &Options, failures: &Path) -> Result<(), String> {
     println!("our library against the Rust, all equal:");
     let calls = extent.of([2_000, 300_000, 6_000_000]) as usize;
     compared(o, "fields", "calls", link::fields(), |l| Ok(fields::run(l, failures, seed, calls)?))?;
+    compared(o, "cursor", "cursors", link::cursor(), |l| Ok(cursor::run(l, failures, seed, extent)?))?;
     compared(o, "hash", "names", link::hash(), |l| Ok(hash::run(l, failures, seed, extent)?))?;
     compared(o, "setters", "calls", link::setters(), |l| Ok(setters::run(l, failures, seed, extent)?))?;
     compared(o, "deriving", "", link::derive(), |l| {

@@ -21,8 +21,20 @@ pub struct Options {
 }
 
 /// The comparisons of our library.
-const STAGES: [&str; 11] =
-    ["fields", "hash", "setters", "deriving", "joints", "skeletons", "checks", "reads", "verdicts", "writes", "program"];
+const STAGES: [&str; 12] = [
+    "fields",
+    "cursor",
+    "hash",
+    "setters",
+    "deriving",
+    "joints",
+    "skeletons",
+    "checks",
+    "reads",
+    "verdicts",
+    "writes",
+    "program",
+];
 
 /// Those that `--count` is for.
 const COUNTED: [&str; 3] = ["reads", "verdicts", "writes"];

@@ -1,6 +1,7 @@
 //! The comparison's own test: faults put in here, not in the library, must be found, shrunk and stored.
 
 mod checks;
+mod cursor;
 mod derive;
 mod fields;
 mod joints;
@@ -23,6 +24,7 @@ pub fn run(folder: &Path) -> Result<usize, String> {
         return Err("self-test: a touched guard was not found".into());
     }
     Ok(1 + single_fields(folder)?
+        + cursors(folder)?
         + deriving(folder)?
         + hashing(folder)?
         + setting(folder)?
@@ -45,6 +47,14 @@ fn single_fields(folder: &Path) -> Result<usize, String> {
         }
     }
     Ok(3)
+}
+
+fn cursors(folder: &Path) -> Result<usize, String> {
+    none(crate::cursor::run(&cursor::Faulty(None), folder, 1, Test))?;
+    for fault in cursor::FAULTS {
+        stored(crate::cursor::run(&cursor::Faulty(Some(fault)), folder, 1, Test), &format!("{fault:?}"))?;
+    }
+    Ok(cursor::FAULTS.len())
 }
 
 fn deriving(folder: &Path) -> Result<usize, String> {

@@ -5,6 +5,8 @@
 
 #[cfg(rig_checks)]
 mod checks;
+#[cfg(rig_cursor)]
+mod cursor;
 #[cfg(rig_derive)]
 mod derive;
 #[cfg(rig_fields)]

@@ -46,6 +46,11 @@ pub trait Hash: Sync {
     fn rage_joaat(&self, s: &[u8]) -> u32;
 }
 
+/// The methods of a cursor in turn: fifteen numbers at the front of `out`, and true; false where fewer fit.
+pub trait Cursor: Sync {
+    fn in_turn(&self, s: &[u8], pos: usize, base: u64, n: usize, out: &mut [u64]) -> bool;
+}
+
 /// The setters of a matrix. A matrix is its sixteen float words, a vector its three or four.
 pub trait Setters: Sync {
     fn set_scale_vector(&self, m: &mut [u32; 16], s: &[u32; 3]);
@@ -138,6 +143,7 @@ groups! {
     fields: Fields if rig_fields;
     derive: Derive if rig_derive;
     hash: Hash if rig_hash;
+    cursor: Cursor if rig_cursor;
     setters: Setters if rig_setters;
     joints: Joints if rig_joints;
     skeletons: Skeletons if rig_skeletons;

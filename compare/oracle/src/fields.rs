@@ -4,7 +4,7 @@ use rage_formats::blocks::{ydr, Cursor, Pod, Writer};
 
 /// What a cursor at `at` yields, and whether it marks the overrun.
 fn taken<'a, V>(data: &'a [u8], at: usize, take: fn(&mut Cursor<'a>) -> V) -> (V, bool) {
-    let mut c = ydr::cursor_at(data, at);
+    let mut c = ydr::cursor_at(data, at, 0);
     let value = take(&mut c);
     (value, c.check().is_err())
 }

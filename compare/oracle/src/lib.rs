@@ -5,6 +5,7 @@
 
 mod bone;
 mod check;
+mod cursor;
 mod derive;
 mod fields;
 mod header;
@@ -21,6 +22,7 @@ mod write;
 
 pub use bone::{Bone, Matrix};
 pub use check::{check, check_reading, Verdict};
+pub use cursor::cursor_in_turn;
 pub use derive::{
     build_bone_tags, build_indices, build_transformations, num_hash_buckets, settle_nan, Chains, COLUMN4, SETTLED_NAN,
 };

@@ -6,3 +6,9 @@ pub mod Search
 pub mod Scanning
 pub mod Table
 pub mod Storing
+pub mod Routines
+pub mod Taking
+pub mod Owning
+pub mod Apart
+pub mod Reading
+pub mod Lending

@@ -3,3 +3,4 @@ pub mod Names
 pub mod Kinds
 pub mod Hashed
 pub mod Pool
+pub mod Cursor

@@ -1,24 +1,30 @@
 -- The laws of one entry's fields: from the bytes at an offset to those at an address, and what a caller learns of the answers.
 -- Assumes nothing.
-use Prim.Native.Nat.{ℕ, _+_, _≤_}
+use Prim.Native.Nat.{ℕ, _+_, _≤_, _<_, _^_}
 use native.Mathlib.Nat.{add-zero}
 use native.Mathlib.Omega.{arith}
+use borrow.Author.Tests.{le-leb, lt-leb, leb-true, leb-false}
+use denote.Ref.{RefT, now}
+use lib.Dec.{leb}
 use mathlib.Core.Path.{_≡_, refl, sym, ap, _∙_}
+use mathlib.Core.Logic.{⊎-elim}
+use mathlib.Core.Bool.{Bool, true, false, or-true}
 use mathlib.Core.List.{List}
 use lib.ListN.{length, take, drop, take-append-drop, length-drop}
 use lib.Seq.{drop-drop, length-take-le}
-use Rattle.format.specs.Result.{Res, refused, done, _>>=_}
+use Rattle.format.specs.Result.{Res, refused, done, _>>=_, need}
 use Rattle.format.specs.Refusal.{number}
 use Rattle.format.specs.declared.Refusal.{Refusal}
-use Rattle.format.specs.Field.{valueOf, field, fieldAt}
-use Rattle.format.specs.Section.{Section, part}
+use Rattle.format.specs.Field.{valueOf, field, orZero}
+use Rattle.format.specs.Section.{Section, Spot, spot, part}
 use Rattle.format.proofs.Fields.{field-within}
-use Rattle.fields.proofs.Laws.{fieldAt-stands}
-use Rattle.blocks.specs.Places.{Locates}
+use Rattle.blocks.specs.Cursor.{saturatingAdd, after}
+use Rattle.blocks.specs.Places.{spotIn, standing, spotOf, Locates}
 use Rattle.blocks.specs.declared.places.Located.{Located}
 use Rattle.blocks.specs.declared.places.Located.the-variants.{System, Graphics, Refused}
-use Rattle.blocks.proofs.Standing.{system-stands, graphics-stands, system-part, graphics-part, refused-part}
-use Rattle.records.specs.Entry.{entryIn, entryOf, entryAt}
+use Rattle.blocks.proofs.Search.{le-or-lt}
+use Rattle.blocks.proofs.Standing.{standing-done}
+use Rattle.records.specs.Entry.{entryOf, entryRead, fieldsOf, entryAt, meantFields}
 use Rattle.records.specs.declared.entry.Entry.{Entry}
 
 -- ---- fields
@@ -33,37 +39,77 @@ field-part k n half o at h l =
     ap (λ (s : List ℕ). field k s at) (take-append-drop n (drop o half)) ∙
     ap (λ (s : List ℕ). valueOf (take k s)) (drop-drop at o half)
 
-entry-part : (half : List ℕ) (o : ℕ) → o + 16 ≤ length half → entryIn half o ≡ entryOf (take 16 (drop o half))
-entry-part half o h =
-    let tag : field 4 half o ≡ field 4 (take 16 (drop o half)) 0 =
-    sym (field-part 4 16 half o 0 (omega arith) h ∙ simp add-zero) in
-    let position = field-part 4 16 half o 4 (omega arith) h in
-    let next = field-part 8 16 half o 8 (omega arith) h in
-    λ i. record { tag = tag i; position = sym position i; next = sym next i }
+-- the fields from an offset of a half on, whose bytes must stand
+abbrev entryFrom : List ℕ → ℕ → Res Entry
+entryFrom half o =
+    need 11 (leb (o + 16) (length half)) >>=
+    λ u. done (record { tag = field 4 half o; position = field 4 half (o + 4); next = field 8 half (o + 8) })
 
--- ---- the ways out of `entry_in` and `entry_at`
+entry-part :
+    (half : List ℕ) (o : ℕ) → (need 11 (leb (o + 16) (length half)) >>= (λ u. done (take 16 (drop o half))) >>= λ b. done (entryOf b)) ≡
+    entryFrom half o
+entry-part half o = by (leb (o + 16) (length half)) refl
+  where
+    by : (t : Bool) → leb (o + 16) (length half) ≡ t →
+        (need 11 t >>= (λ u. done (take 16 (drop o half))) >>= λ b. done (entryOf b))
+        ≡ (need 11 t >>= λ u. done (record { tag = field 4 half o; position = field 4 half (o + 4); next = field 8 half (o + 8) }))
+    by true e =
+        let h : o + 16 ≤ length half = leb-true (o + 16) (length half) e in
+        let tag : field 4 (take 16 (drop o half)) 0 ≡ field 4 half o = field-part 4 16 half o 0 (omega arith) h ∙ simp add-zero in
+        let position = field-part 4 16 half o 4 (omega arith) h in
+        let next = field-part 8 16 half o 8 (omega arith) h in
+        λ i. done (record { tag = tag i; position = position i; next = next i })
+    by false e = refl
 
-pub fields-stand :
-    (half : List ℕ) (at : ℕ) {t p n : ℕ} → at + 16 ≤ length half → t ≡ fieldAt 4 half at → p ≡ fieldAt 4 half (at + 4) →
-    n ≡ fieldAt 8 half (at + 8) → record { tag = t; position = p; next = n } ≡ entryIn half at
-fields-stand half at h i j k =
-    let tag = i ∙ fieldAt-stands 4 half at (omega arith) in
-    let position = j ∙ fieldAt-stands 4 half (at + 4) (omega arith) in
-    let next = k ∙ fieldAt-stands 8 half (at + 8) (omega arith) in
-    λ x. record { tag = tag x; position = position x; next = next x }
+-- ---- what a cursor reads, with its check
 
-module _ {s : Section} {va : ℕ} {r : Located} (l : Locates s va 16 r) where
-  pub entry-system : {o : ℕ} {f : Entry} → r ≡ System o → f ≡ entryIn s.system o → done f ≡ entryAt s va
-  unfolding entryAt
-  entry-system {o} e f = rw (system-part l e) (ap done (f ∙ entry-part s.system o (system-stands l e)))
+-- it saturates only where no field stands
+pub entry-read : (s : RefT (List ℕ)) (o b : ℕ) → length (now s) < 2 ^ 64 → meantFields (fieldsOf (entryRead s o b)) ≡ entryFrom (now s) o
+unfolding entryRead after orZero
+entry-read s o b room =
+    let half : List ℕ = now s in
+    ⊎-elim
+    (λ (h : o + 16 ≤ length half).
+    let p : saturatingAdd o 4 ≡ o + 4 = omega arith in
+    let n : saturatingAdd (o + 4) 4 ≡ o + 8 = omega arith in
+    let t₁ = le-leb (o + 4) (length half) (omega arith) in
+    let t₂ = le-leb (o + 4 + 4) (length half) (omega arith) in
+    let t₃ = le-leb (o + 8 + 8) (length half) (omega arith) in
+    simp (p, n, t₁, t₂, t₃, le-leb (o + 16) (length half) h) refl)
+    (λ (h : length half < o + 16).
+    let t : leb (saturatingAdd (saturatingAdd o 4) 4 + 8) (length half) ≡ false = lt-leb _ (length half) (omega arith) in
+    simp (t, or-true, lt-leb (o + 16) (length half) h))
+    (le-or-lt (o + 16) (length half))
 
-  pub entry-graphics : {o : ℕ} {f : Entry} → r ≡ Graphics o → f ≡ entryIn s.graphics o → done f ≡ entryAt s va
-  unfolding entryAt
-  entry-graphics {o} e f = rw (graphics-part l e) (ap done (f ∙ entry-part s.graphics o (graphics-stands l e)))
+-- ---- the ways out of `entry_at`: the legal cursor, and then the reads
+
+module _ {s : Section} {va : ℕ} {r : Located} (l : Locates s va 0 r) where
+  at-spot : (p : Spot) → spotOf s r ≡ done p → entryAt s va ≡ entryFrom (p .half) (p .offset)
+  unfolding entryAt part
+  at-spot p e = rw (standing-done s va 0 p (sym (l .place) ∙ e) .0) (entry-part (p .half) (p .offset))
+
+  pub entry-system : {o : ℕ} → r ≡ System o → entryAt s va ≡ entryFrom s.system o
+  entry-system {o} e = at-spot (spotIn s.system o) (ap (spotOf s) e)
+
+  pub entry-graphics : {o : ℕ} → r ≡ Graphics o → entryAt s va ≡ entryFrom s.graphics o
+  entry-graphics {o} e = at-spot (spotIn s.graphics o) (ap (spotOf s) e)
 
   pub entry-refused : {x : Refusal} → r ≡ Refused x → refused (number x) ≡ entryAt s va
-  unfolding entryAt
-  entry-refused e = rw (refused-part l e) refl
+  unfolding entryAt part standing
+  entry-refused {x} e = by (spot s va) (sym (ap (spotOf s) e) ∙ l .place)
+    where
+      by : (m : Res Spot) → refused (number x) ≡ (m >>= λ p. need 11 (leb (p .offset + 0) (length (p .half))) >>= λ u. done p) →
+          refused (number x) ≡ (m >>= (λ p. need 11 (leb (p .offset + 16) (length (p .half))) >>= λ u. done
+          (take 16 (drop (p .offset) (p .half)))) >>= λ b. done (entryOf b))
+      by (refused c) d = ap refused (cc)
+      by (done p) d = past (leb (p .offset + 0) (length (p .half))) refl d
+        where
+          past : (t : Bool) → leb (p .offset + 0) (length (p .half)) ≡ t → refused (number x) ≡ (need 11 t >>= λ u. done p) →
+              refused (number x) ≡ (need 11 (leb (p .offset + 16) (length (p .half))) >>= (λ u. done (take 16 (drop (p .offset) (p .half))))
+              >>= λ b. done (entryOf b))
+          past true t f = let z : _≡_ {A = ℕ} 0 1 = cc in absurd (omega arith)
+          past false t f = rw (lt-leb (p .offset + 16) (length (p .half)) (omega (arith, leb-false (p .offset + 0) (length (p .half)) t)))
+              (ap refused cc)
 
 -- ---- what a caller learns of an entry's fields
 

@@ -1,23 +1,46 @@
 -- The fields of a tag entry as the code has them, by its bytes and by its address (document 01, "Records"). Definitions only.
-use Prim.Native.Nat.{ℕ, _+_}
+use Prim.Native.Nat.{ℕ}
 use mathlib.Core.List.{List}
+use denote.Ref.{RefT}
 use Rattle.format.specs.Result.{Res, refused, done, _>>=_}
 use Rattle.format.specs.Refusal.{number}
-use Rattle.format.specs.Field.{field}
+use Rattle.format.specs.Field.{fieldAt}
 use Rattle.format.specs.Section.{Section, part}
 use Rattle.format.specs.Records.{entryTag, entryPosition, entryNext}
+use Rattle.blocks.specs.Cursor.{verdict, cursorAt, readBy, taken}
+use Rattle.blocks.specs.declared.cursor.Checked.{Checked}
+use Rattle.blocks.specs.declared.cursor.Checked.the-variants.{Within, Refused as Checked·Refused}
+use Rattle.records.specs.declared.entry.Read.{Read}
 use Rattle.records.specs.declared.entry.Entry.{Entry}
 use Rattle.records.specs.declared.entry.Fields.{Fields}
 use Rattle.records.specs.declared.entry.Fields.the-variants.{At, Refused}
 
--- the fields from an offset on
-abbrev pub entryIn : List ℕ → ℕ → Entry
-entryIn half at = record { tag = field 4 half at; position = field 4 half (at + 4); next = field 8 half (at + 8) }
-
--- those of its sixteen bytes
+-- the fields of its sixteen bytes
 abbrev pub entryOf : List ℕ → Entry
 entryOf b = record { tag = entryTag b; position = entryPosition b; next = entryNext b }
 
+-- what a cursor reads from a position on, and whether it ran past the end
+unfoldable pub entryRead : RefT (List ℕ) → ℕ → ℕ → Read
+entryRead half at base =
+    let tag = cursorAt half at base in
+    let position = taken 4 tag in
+    let next = taken 4 position in
+    record {
+      tag = readBy (fieldAt 4) tag;
+      position = readBy (fieldAt 4) position;
+      next = readBy (fieldAt 8) next;
+      checked = verdict (taken 8 next .overrun);
+    }
+
+-- the fields that were read, or what the check refuses
+abbrev pub answered : Checked → Entry → Fields
+answered Within e = At e
+answered (Checked·Refused x) e = Refused x
+
+abbrev pub fieldsOf : Read → Fields
+fieldsOf r = answered (r .checked) (record { tag = r .tag; position = r .position; next = r .next })
+
+-- the fields of the entry at an address
 unfoldable pub entryAt : Section → ℕ → Res Entry
 entryAt sec va = do
   b ← part sec va 16

@@ -1,9 +1,9 @@
 // A tag entry: the fields of its 16 bytes (document 01, "Records").
 ghost use mathlib.Core.Path.{_≡_};
-ghost use Prim.Native.Nat.{_+_, _≤_};
-ghost use lib.ListN.{length};
 ghost use Rattle.blocks.specs.Places.{section};
-ghost use Rattle.records.specs.Entry.{entryIn, entryAt, meantFields};
+ghost use Rattle.records.specs.Entry.{entryAt, entryRead, fieldsOf, meantFields};
+use blocks::cursor::Checked;
+use blocks::cursor::Cursor;
 use blocks::places;
 use blocks::places::Located;
 use format::Refusal;
@@ -22,15 +22,42 @@ pub enum Fields {
     Refused(Refusal),
 }
 
-// The fields of the entry at an offset where its bytes stand.
-fn entry_in(half: &[u8], at: usize) -> Entry
-    requires { ⌜ at + 16 ≤ length (now half) ⌝ }
-    ensures { λ r. ⌜ r ≡ entryIn (now (half .entry)) at ⌝ }
+// What the reads of an entry give, zeros where they run past the end, and whether one did.
+struct Read {
+    tag: u32,
+    position: u32,
+    next: u64,
+    checked: Checked,
+}
+
+// The reads of the entry at an offset of a half, by a cursor.
+fn read_entry(half: &[u8], at: usize, base: u64) -> Read
+    ensures { λ r. ⌜ r ≡ entryRead (half .entry) at base ⌝ }
 {
-    Entry {
-        tag: fields::u32_at(half, at),
-        position: fields::u32_at(half, at + 4),
-        next: fields::u64_at(half, at + 8),
+    let mut c = Cursor::new(half, at, base);
+    let tag = c.u32();
+    let position = c.u32();
+    let next = c.u64();
+    Read {
+        tag,
+        position,
+        next,
+        checked: c.check(),
+    }
+}
+
+// The fields that were read, or what the check of the cursor refuses.
+fn fields_of(r: Read) -> Fields
+    ensures { λ f. ⌜ f ≡ fieldsOf r ⌝ }
+{
+    let checked = r.checked;
+    match checked {
+        Checked::Within => Fields::At(Entry {
+            tag: r.tag,
+            position: r.position,
+            next: r.next,
+        }),
+        Checked::Refused(x) => Fields::Refused(x),
     }
 }
 
@@ -38,9 +65,9 @@ fn entry_in(half: &[u8], at: usize) -> Entry
 pub fn entry_at(sys: &[u8], gfx: &[u8], va: u64) -> Fields
     ensures answer { λ r. ⌜ meantFields r ≡ entryAt (section (now (sys .entry)) (now (gfx .entry))) va ⌝ }
 {
-    match places::locate(sys, gfx, va, format::ENTRY_SIZE) {
-        Located::System(o) => Fields::At(entry_in(sys, o)),
-        Located::Graphics(o) => Fields::At(entry_in(gfx, o)),
+    match places::locate(sys, gfx, va, 0) {
+        Located::System(o) => fields_of(read_entry(sys, o, format::SYSTEM_BASE)),
+        Located::Graphics(o) => fields_of(read_entry(gfx, o, format::GRAPHICS_BASE)),
         Located::Refused(r) => Fields::Refused(r),
     }
 }

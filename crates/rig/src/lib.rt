@@ -11,6 +11,7 @@ mod limits; // joints
 mod sections; // a skeleton's section
 mod tags; // lookup of a tag
 mod checks; // the skeleton check
+mod readers; // the methods of a cursor
 
 // ---- reading: the number, or 0 where the field does not lie wholly in the slice
 

@@ -1,8 +1,10 @@
--- `entry::entry_at` meets its contract: the fields in the half that `locate` names. Assumes nothing.
+-- `entry::entry_at` meets its contract: the legal cursor that `locate` names, and what is read there. Assumes nothing.
 use borrow.Author.Needs.{needs}
+use mathlib.Core.Path.{ap, sym, _∙_}
 use native.Mathlib.Omega.{arith}
-use Rattle.blocks.proofs.Standing.{system-stands, graphics-stands}
-use Rattle.records.proofs.Entries.{entry-system, entry-graphics, entry-refused}
+use Rattle.records.specs.Entry.{meantFields, fieldsOf}
+use Rattle.records.specs.declared.entry.Read.{Read}
+use Rattle.records.proofs.Entries.{entry-read, entry-system, entry-graphics, entry-refused}
 use Rattle.records.proofs.entry.entry_at.Statement.{statement}
 use Rattle.records.proofs.entry.entry_at.Tie as tie
 
@@ -12,33 +14,41 @@ locate-requires c κs = search needs
 enum-known-o : tie.Need-enum-known-o
 enum-known-o c = search needs
 
-entry-in-requires : tie.Need-entry-in-requires
-entry-in-requires c κs =
-    let l = c .before .before .before in
-    omega (arith, system-stands (l .locate .ensures) (c .before .o .given .1))
+read-entry-requires : tie.Need-read-entry-requires
+read-entry-requires c κs = search needs
+
+fields-of-requires : tie.Need-fields-of-requires
+fields-of-requires c κs = search needs
 
 enum-known-o-2 : tie.Need-enum-known-o-2
 enum-known-o-2 c = search needs
 
-entry-in-requires-2 : tie.Need-entry-in-requires-2
-entry-in-requires-2 c κs =
-    let l = c .before .before .before in
-    omega (arith, graphics-stands (l .locate .ensures) (c .before .o2 .given .1))
+read-entry-requires-2 : tie.Need-read-entry-requires-2
+read-entry-requires-2 c κs = search needs
+
+fields-of-requires-2 : tie.Need-fields-of-requires-2
+fields-of-requires-2 c κs = search needs
 
 enum-known-r : tie.Need-enum-known-r
 enum-known-r c = search needs
 
 returns : tie.Need-returns
 returns c =
-    let o = c .before .before in
+    let r = c .before in
+    let o = r .before .before in
     let l = o .before .before in
-    entry-system (l .locate .ensures) (o .o .given .1) (c .entry-in .ensures)
+    let start = l .before .before .before in
+    ap meantFields (c .fields-of .ensures) ∙ ap (λ (x : Read). meantFields (fieldsOf x)) (r .read-entry .ensures) ∙
+    entry-read _ _ _ (omega (arith, start .good)) ∙ sym (entry-system (l .locate .ensures) (o .o .given .1))
 
 returns-2 : tie.Need-returns-2
 returns-2 c =
-    let o = c .before .before in
+    let r = c .before in
+    let o = r .before .before in
     let l = o .before .before in
-    entry-graphics (l .locate .ensures) (o .o2 .given .1) (c .entry-in2 .ensures)
+    let start = l .before .before .before in
+    ap meantFields (c .fields-of2 .ensures) ∙ ap (λ (x : Read). meantFields (fieldsOf x)) (r .read-entry2 .ensures) ∙
+    entry-read _ _ _ (omega (arith, start .good)) ∙ sym (entry-graphics (l .locate .ensures) (o .o2 .given .1))
 
 returns-3 : tie.Need-returns-3
 returns-3 c =
@@ -52,9 +62,11 @@ entry-at-spec =
     (tie.spec
     locate-requires
     enum-known-o
-    entry-in-requires
+    read-entry-requires
+    fields-of-requires
     enum-known-o-2
-    entry-in-requires-2
+    read-entry-requires-2
+    fields-of-requires-2
     enum-known-r
     returns
     returns-2

@@ -21,9 +21,9 @@ pub fn located(r: &Reader, va: u64) -> Result<(&[u8], usize)> {
     Ok((data, (va - base) as usize))
 }
 
-/// A cursor over `data` at any position, also outside it.
-pub fn cursor_at(data: &[u8], pos: usize) -> Cursor<'_> {
-    Cursor { data, pos, base: 0, overrun: false }
+/// A cursor over `data` at any position, also outside it; its first byte has the address `base`.
+pub fn cursor_at(data: &[u8], pos: usize, base: u64) -> Cursor<'_> {
+    Cursor { data, pos, base, overrun: false }
 }
 
 /// The blocks of type `B`, in the order in which they were added.
