@@ -183,18 +183,17 @@ enum {
     RIG_CURSOR_U16 = 1,
     RIG_CURSOR_I16 = 2,
     RIG_CURSOR_U32 = 3,
-    /* here n bytes are skipped */
     RIG_CURSOR_U64 = 4,
     RIG_CURSOR_F32 = 5,
     RIG_CURSOR_VEC3 = 6,    /* 3 numbers */
     RIG_CURSOR_VEC4 = 9,    /* 4 numbers */
-    RIG_CURSOR_VA = 13,     /* the address of the position behind the last read: `base` and the position */
+    RIG_CURSOR_VA = 13,     /* the address, `base` and the position, n bytes behind the last read */
     RIG_CURSOR_STATUS = 14, /* RIG_OK, or RIG_PAST_THE_END where a read ran past the end */
     RIG_CURSOR_NUMBERS = 15
 };
 
-/* Reads by a cursor over the `s_len` bytes, which starts at offset `pos`: each kind of read once. A read that runs past the end
- * gives 0, of a vector for each of its numbers; a skip past the end does no harm. Gives false where `out` has no room for the
+/* Reads by a cursor over the `s_len` bytes, which starts at offset `pos`: each kind of read once, then a skip of n bytes. A read
+ * that runs past the end gives 0, of a vector for each of its numbers; a skip past the end does no harm. Gives false where `out` has no room for the
  * numbers, and every word of it is then as it was. A position, or an address, above 2^64 - 1 is 2^64 - 1. */
 bool rig_cursor(const uint8_t *s, size_t s_len, size_t pos, uint64_t base, size_t n, uint64_t *out, size_t out_len);
 

@@ -58,24 +58,24 @@ void cursor(void)
         [RIG_CURSOR_U16] = 0x0302,
         [RIG_CURSOR_I16] = 0x0504,
         [RIG_CURSOR_U32] = 0x09080706,
-        [RIG_CURSOR_U64] = UINT64_C(0x14131211100F0E0D),
-        [RIG_CURSOR_F32] = 0x18171615,
-        [RIG_CURSOR_VEC3] = 0x1C1B1A19, 0x201F1E1D, 0x24232221,
-        [RIG_CURSOR_VEC4] = 0x28272625, 0x2C2B2A29, 0x302F2E2D, 0x34333231,
+        [RIG_CURSOR_U64] = UINT64_C(0x11100F0E0D0C0B0A),
+        [RIG_CURSOR_F32] = 0x15141312,
+        [RIG_CURSOR_VEC3] = 0x19181716, 0x1D1C1B1A, 0x21201F1E,
+        [RIG_CURSOR_VEC4] = 0x25242322, 0x29282726, 0x2D2C2B2A, 0x31302F2E,
         [RIG_CURSOR_VA] = RIG_SYSTEM_BASE + 52,
         [RIG_CURSOR_STATUS] = RIG_OK,
     };
     static const uint64_t past[RIG_CURSOR_NUMBERS] = {
-        [RIG_CURSOR_U8] = 0x34,
-        [RIG_CURSOR_VA] = RIG_SYSTEM_BASE + 103,
+        [RIG_CURSOR_U8] = 0x31,
+        [RIG_CURSOR_VA] = RIG_SYSTEM_BASE + 100,
         [RIG_CURSOR_STATUS] = RIG_PAST_THE_END,
     };
-    struct bytes s = lend_bytes("bytes", 52);
+    struct bytes s = lend_bytes("bytes", 49);
     for (size_t i = 0; i < s.len; i++)
         s.at[i] = (uint8_t)(i + 1);
     keep();
     cursor_from(s, 0, 3, whole);
-    cursor_from(s, 51, 3, past);
+    cursor_from(s, 48, 3, past);
     give_back();
 }
 

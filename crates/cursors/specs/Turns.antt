@@ -1,4 +1,4 @@
--- Each read of a cursor in turn, from a position on, with a skip of n bytes behind the first four. Definitions only.
+-- Each read of a cursor in turn, from a position on, and a skip of n bytes behind the last. Definitions only.
 use Prim.Native.Nat.{ℕ}
 use mathlib.Core.Bool.{Bool}
 use mathlib.Core.List.{List, [], _∷_}
@@ -28,11 +28,8 @@ module _ (s : RefT (List ℕ)) (pos base n : ℕ) where
   abbrev pub wordAt : Cursor
   wordAt = taken 2 signedAt
 
-  abbrev pub skipAt : Cursor
-  skipAt = taken 4 wordAt
-
   abbrev pub longAt : Cursor
-  longAt = skipped n skipAt
+  longAt = taken 4 wordAt
 
   abbrev pub floatAt : Cursor
   floatAt = taken 8 longAt
@@ -43,8 +40,11 @@ module _ (s : RefT (List ℕ)) (pos base n : ℕ) where
   abbrev pub fourAt : Cursor
   fourAt = taken 12 threeAt
 
+  abbrev pub skipAt : Cursor
+  skipAt = taken 16 fourAt
+
   abbrev pub lastAt : Cursor
-  lastAt = taken 16 fourAt
+  lastAt = skipped n skipAt
 
   unfoldable pub inTurn : Turns
   inTurn =

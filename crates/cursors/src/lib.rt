@@ -20,7 +20,7 @@ pub struct Turns {
     pub checked: Checked,
 }
 
-// A cursor over the section s at a position: each read in turn, with a skip of n bytes behind the first four.
+// A cursor over the section s at a position: each read in turn, then a skip of n bytes, so that a skip that marked would be seen.
 pub fn in_turn(s: &[u8], pos: usize, base: u64, n: usize) -> Turns
     ensures answer { λ r. ⌜ r ≡ inTurn (s .entry) pos base n ⌝ }
 {
@@ -29,11 +29,11 @@ pub fn in_turn(s: &[u8], pos: usize, base: u64, n: usize) -> Turns
     let half = c.u16();
     let signed = c.i16();
     let word = c.u32();
-    c.skip(n);
     let long = c.u64();
     let float = c.f32();
     let three = c.vec3();
     let four = c.vec4();
+    c.skip(n);
     Turns {
         byte,
         half,

@@ -25,9 +25,9 @@ pub enum Fault {
 pub const FAULTS: [Fault; 6] =
     [Fault::Unmarked, Fault::SkipMarks, Fault::WordsThatStand, Fault::BytesThatStand, Fault::VaOfTheBase, Fault::WordFurther];
 
-/// The bytes of the reads in front of the skip, and of those between it and the vector of three.
-const FIRST: usize = 9;
-const BETWEEN: usize = 12;
+/// The bytes of all reads, and of those in front of the vector of three.
+const ALL: usize = 49;
+const IN_FRONT: usize = 21;
 
 impl Cursor for Faulty {
     fn in_turn(&self, s: &[u8], pos: usize, base: u64, n: usize, out: &mut [u64]) -> bool {
@@ -35,10 +35,10 @@ impl Cursor for Faulty {
             return false;
         }
         let mut numbers = cursor_in_turn(s, pos, base, n);
-        let three = pos.saturating_add(FIRST + n + BETWEEN);
+        let three = pos.saturating_add(IN_FRONT);
         match self.0 {
             Some(Fault::Unmarked) => numbers[14] = 0,
-            Some(Fault::SkipMarks) if pos.saturating_add(FIRST + n) > s.len() => numbers[14] = 11,
+            Some(Fault::SkipMarks) if pos.saturating_add(ALL + n) > s.len() => numbers[14] = 11,
             Some(Fault::WordsThatStand) if three < s.len() => {
                 let word = |at: usize| s.get(at..at + 4).map_or(0, |b| u32::from_le_bytes([b[0], b[1], b[2], b[3]]) as u64);
                 numbers[6..9].copy_from_slice(&[word(three), word(three + 4), word(three + 8)]);

@@ -183,19 +183,19 @@ module _ {M : Type 1} (𝓤 : URA M) (H : Heap 𝓤) (A : Atoms 𝓤) (W : Given
   h₃ = wordAt s o b n
 
   abbrev h₄ : Cursor
-  h₄ = skipAt s o b n
+  h₄ = longAt s o b n
 
   abbrev h₅ : Cursor
-  h₅ = longAt s o b n
+  h₅ = floatAt s o b n
 
   abbrev h₆ : Cursor
-  h₆ = floatAt s o b n
+  h₆ = threeAt s o b n
 
   abbrev h₇ : Cursor
-  h₇ = threeAt s o b n
+  h₇ = fourAt s o b n
 
   abbrev h₈ : Cursor
-  h₈ = fourAt s o b n
+  h₈ = skipAt s o b n
 
   abbrev h₉ : Cursor
   h₉ = lastAt s o b n
@@ -279,7 +279,7 @@ module _ {M : Type 1} (𝓤 : URA M) (H : Heap 𝓤) (A : Atoms 𝓤) (W : Given
         (fsep (u64 .own va (vss .1 .1 .1 .1 .1 .1 .1 .1 .0)) (fsep (S.the-row .own t (vss .1 .1 .1 .1 .1 .1 .1 .1 .1 .0)) ftrue)))))))))
 
     answer : byte ≡ readBy (fieldAt 1) h₀ → half ≡ readBy (fieldAt 2) h₁ → signed ≡ readBy (fieldAt 2) h₂ → word ≡ readBy (fieldAt 4) h₃
-        → long ≡ readBy (fieldAt 8) h₅ → float ≡ readBy (fieldAt 4) h₆ → three ≡ readBy words3At h₇ → four ≡ readBy words4At h₈
+        → long ≡ readBy (fieldAt 8) h₄ → float ≡ readBy (fieldAt 4) h₅ → three ≡ readBy words3At h₆ → four ≡ readBy words4At h₇
         → va ≡ vaOf h₉ → t ≡ verdict (h₉ .overrun) → made ≡ inTurn s o b n
     unfolding inTurn
     answer e₀ e₁ e₂ e₃ e₅ e₆ e₇ e₈ e₉ e₁₀ = λ i. record {
@@ -398,35 +398,35 @@ module _ {M : Type 1} (𝓤 : URA M) (H : Heap 𝓤) (A : Atoms 𝓤) (W : Given
         (λ p. (and-then ! (load ! (from ! (stop !)) (look ! 22 refl)) (no-more !))) (λ u word e-word is-word.
         land ! (from ! (stop !)) (init ! 40 refl (uint-lawful 𝓤 H A W w32 .typed word _ is-word .0)) $
         rewrite ! 40 (λ (y : Val). ‵ (fat fullShare (tyInt w32) l₉ 0 y)) (ap only (is-word .0)) refl $
-        assigns ! (addr ! (from ! (stop !))) (from ! (stop !)) (init ! 18 refl (tt, tt)) $
-        use2 W (later (some (λ (p : ℕ × GName). raw (Skip 𝓤 H A W at-mem run κ q h₄ l₅ n .pre (to-skip 𝓤 H A W at-mem run κ q h₄ l₅ n p)) ⊛
-        raw (Kept 𝓤 H A W κ q l₅ p)))) (skip-lent 𝓤 H A W at-mem run κ q h₄ l₅ n n-fits) $ await ! tt $ pick ! (λ p. split ! $
-        calls-at ! fm (Skip 𝓤 H A W at-mem run κ q h₄ l₅ n) known-skip (to-skip 𝓤 H A W at-mem run κ q h₄ l₅ n p)
-        (and-then ! (load ! (from ! (stop !)) (look ! 18 refl)) (and-then ! (load ! (from ! (stop !)) (look ! 49 refl)) (no-more !))) (λ u.
-        use2 W (later ((‵ (mem (B κ) .lies h₅ l₅ 0) ⊛ ‵ (flft κ q)) ⊛ raw (fact 𝓤 (u ∷ [] ≡ vunit ∷ []))))
-        (skip-back 𝓤 H A W at-mem run κ q h₄ l₅ n p u) $ await ! tt $ split ! $ move ! (1 ∷ []) $
-        heard ! (u ∷ [] ≡ vunit ∷ []) (λ e-u. split ! $
-        land ! (from ! (stop !)) (init ! 20 refl (subst (λ (y : Val). Holds (hasTy tyUnit y) × WT y) (sym (ap only e-u)) (tt, tt))) $
-        assigns ! (addr ! (from ! (stop !))) (from ! (stop !)) (init ! 16 refl (tt, tt)) $
-        reads-on u64 8 (fieldAt 8) 𝓤 H A W at-mem run κ q h₅ l₅ ! fm known-u64
-        (λ p. (and-then ! (load ! (from ! (stop !)) (look ! 16 refl)) (no-more !))) (λ u long e-long is-long.
+        assigns ! (addr ! (from ! (stop !))) (from ! (stop !)) (init ! 20 refl (tt, tt)) $
+        reads-on u64 8 (fieldAt 8) 𝓤 H A W at-mem run κ q h₄ l₅ ! fm known-u64
+        (λ p. (and-then ! (load ! (from ! (stop !)) (look ! 20 refl)) (no-more !))) (λ u long e-long is-long.
         land ! (from ! (stop !)) (init ! 38 refl (uint-lawful 𝓤 H A W w64 .typed long _ is-long .0)) $
         rewrite ! 38 (λ (y : Val). ‵ (fat fullShare (tyInt w64) l₁₀ 0 y)) (ap only (is-long .0)) refl $
-        assigns ! (addr ! (from ! (stop !))) (from ! (stop !)) (init ! 14 refl (tt, tt)) $
-        reads-on u32 4 (fieldAt 4) 𝓤 H A W at-mem run κ q h₆ l₅ ! fm known-f32
-        (λ p. (and-then ! (load ! (from ! (stop !)) (look ! 14 refl)) (no-more !))) (λ u float e-float is-float.
+        assigns ! (addr ! (from ! (stop !))) (from ! (stop !)) (init ! 18 refl (tt, tt)) $
+        reads-on u32 4 (fieldAt 4) 𝓤 H A W at-mem run κ q h₅ l₅ ! fm known-f32
+        (λ p. (and-then ! (load ! (from ! (stop !)) (look ! 18 refl)) (no-more !))) (λ u float e-float is-float.
         land ! (from ! (stop !)) (init ! 36 refl (uint-lawful 𝓤 H A W w32 .typed float _ is-float .0)) $
         rewrite ! 36 (λ (y : Val). ‵ (fat fullShare (tyInt w32) l₁₁ 0 y)) (ap only (is-float .0)) refl $
-        assigns ! (addr ! (from ! (stop !))) (from ! (stop !)) (init ! 12 refl (tt, tt)) $
-        reads-on N3.the-row 12 words3At 𝓤 H A W at-mem run κ q h₇ l₅ ! fm known-vec3
-        (λ p. (and-then ! (load ! (from ! (stop !)) (look ! 12 refl)) (no-more !))) (λ u three e-three is-three.
+        assigns ! (addr ! (from ! (stop !))) (from ! (stop !)) (init ! 16 refl (tt, tt)) $
+        reads-on N3.the-row 12 words3At 𝓤 H A W at-mem run κ q h₆ l₅ ! fm known-vec3
+        (λ p. (and-then ! (load ! (from ! (stop !)) (look ! 16 refl)) (no-more !))) (λ u three e-three is-three.
         land ! (from ! (stop !)) (init ! 34 refl (LL.lawful N3.the-type N3′.the-laws 𝓤 H A W .typed three _ is-three .0)) $
         rewrite ! 34 (λ (y : Val). ‵ (fat fullShare N3′.mir l₁₂ 0 y)) (ap only (LL.tells N3.the-type N3′.the-laws three _ is-three)) refl $
-        assigns ! (addr ! (from ! (stop !))) (from ! (stop !)) (init ! 10 refl (tt, tt)) $
-        reads-on N4.the-row 16 words4At 𝓤 H A W at-mem run κ q h₈ l₅ ! fm known-vec4
-        (λ p. (and-then ! (load ! (from ! (stop !)) (look ! 10 refl)) (no-more !))) (λ u four e-four is-four.
+        assigns ! (addr ! (from ! (stop !))) (from ! (stop !)) (init ! 14 refl (tt, tt)) $
+        reads-on N4.the-row 16 words4At 𝓤 H A W at-mem run κ q h₇ l₅ ! fm known-vec4
+        (λ p. (and-then ! (load ! (from ! (stop !)) (look ! 14 refl)) (no-more !))) (λ u four e-four is-four.
         land ! (from ! (stop !)) (init ! 32 refl (LL.lawful N4.the-type N4′.the-laws 𝓤 H A W .typed four _ is-four .0)) $
         rewrite ! 32 (λ (y : Val). ‵ (fat fullShare N4′.mir l₁₃ 0 y)) (ap only (LL.tells N4.the-type N4′.the-laws four _ is-four)) refl $
+        assigns ! (addr ! (from ! (stop !))) (from ! (stop !)) (init ! 10 refl (tt, tt)) $
+        use2 W (later (some (λ (p : ℕ × GName). raw (Skip 𝓤 H A W at-mem run κ q h₈ l₅ n .pre (to-skip 𝓤 H A W at-mem run κ q h₈ l₅ n p)) ⊛
+        raw (Kept 𝓤 H A W κ q l₅ p)))) (skip-lent 𝓤 H A W at-mem run κ q h₈ l₅ n n-fits) $ await ! tt $ pick ! (λ p. split ! $
+        calls-at ! fm (Skip 𝓤 H A W at-mem run κ q h₈ l₅ n) known-skip (to-skip 𝓤 H A W at-mem run κ q h₈ l₅ n p)
+        (and-then ! (load ! (from ! (stop !)) (look ! 10 refl)) (and-then ! (load ! (from ! (stop !)) (look ! 49 refl)) (no-more !))) (λ u.
+        use2 W (later ((‵ (mem (B κ) .lies h₉ l₅ 0) ⊛ ‵ (flft κ q)) ⊛ raw (fact 𝓤 (u ∷ [] ≡ vunit ∷ []))))
+        (skip-back 𝓤 H A W at-mem run κ q h₈ l₅ n p u) $ await ! tt $ split ! $ move ! (1 ∷ []) $
+        heard ! (u ∷ [] ≡ vunit ∷ []) (λ e-u. split ! $
+        land ! (from ! (stop !)) (init ! 12 refl (subst (λ (y : Val). Holds (hasTy tyUnit y) × WT y) (sym (ap only e-u)) (tt, tt))) $
         use1 W (‵ (fat fullShare (T′.mir erased) l₅ 0 (T′.lowered h₉)) ⊛ ‵ (B κ .own h₉ (T′.lowered h₉ ∷ []))) (lies-out 𝓤 H A W κ h₉ l₅) $
         split ! $ move ! (1 ∷ []) $ peeks ! (B κ) (Is (B κ)) (shows 𝓤 H A (B κ)) h₉ (T′.lowered h₉ ∷ []) (λ is₉.
         -- [what the cursor owns; _5; the token; true; what s owns; the other locals]: it is passed to `va`, and then to `check`
