@@ -3,7 +3,7 @@
 use Prim.Native.Nat.{ℕ, _+_, _≤_, _<_, _^_}
 use native.Mathlib.Nat.{add-zero}
 use native.Mathlib.Omega.{arith}
-use borrow.Author.Tests.{le-leb, lt-leb, leb-true, leb-false}
+use borrow.Author.Tests.{le-leb, lt-leb, leb-true}
 use denote.Ref.{RefT, now}
 use lib.Dec.{leb}
 use mathlib.Core.Path.{_≡_, refl, sym, ap, _∙_}
@@ -16,14 +16,14 @@ use Rattle.format.specs.Result.{Res, refused, done, _>>=_, need}
 use Rattle.format.specs.Refusal.{number}
 use Rattle.format.specs.declared.Refusal.{Refusal}
 use Rattle.format.specs.Field.{valueOf, field, orZero}
-use Rattle.format.specs.Section.{Section, Spot, spot, part}
+use Rattle.format.specs.Section.{Section, Spot, part}
 use Rattle.format.proofs.Fields.{field-within}
 use Rattle.blocks.specs.Cursor.{saturatingAdd, after}
-use Rattle.blocks.specs.Places.{spotIn, standing, spotOf, Locates}
+use Rattle.blocks.specs.Places.{spotIn, spotOf, Locates}
 use Rattle.blocks.specs.declared.places.Located.{Located}
 use Rattle.blocks.specs.declared.places.Located.the-variants.{System, Graphics, Refused}
 use Rattle.blocks.proofs.Search.{le-or-lt}
-use Rattle.blocks.proofs.Standing.{standing-done}
+use Rattle.blocks.proofs.Standing.{standing-done, refused-part}
 use Rattle.records.specs.Entry.{entryOf, entryRead, fieldsOf, entryAt, meantFields}
 use Rattle.records.specs.declared.entry.Entry.{Entry}
 
@@ -81,12 +81,12 @@ entry-read s o b room =
     simp (t, or-true, lt-leb (o + 16) (length half) h))
     (le-or-lt (o + 16) (length half))
 
--- ---- the ways out of `entry_at`: the legal cursor, and then the reads
+-- ---- the ways out of `entry_at`: where the bytes stand, and then the reads
 
-module _ {s : Section} {va : ℕ} {r : Located} (l : Locates s va 0 r) where
+module _ {s : Section} {va : ℕ} {r : Located} (l : Locates s va 16 r) where
   at-spot : (p : Spot) → spotOf s r ≡ done p → entryAt s va ≡ entryFrom (p .half) (p .offset)
   unfolding entryAt part
-  at-spot p e = rw (standing-done s va 0 p (sym (l .place) ∙ e) .0) (entry-part (p .half) (p .offset))
+  at-spot p e = rw (standing-done s va 16 p (sym (l .place) ∙ e) .0) (entry-part (p .half) (p .offset))
 
   pub entry-system : {o : ℕ} → r ≡ System o → entryAt s va ≡ entryFrom s.system o
   entry-system {o} e = at-spot (spotIn s.system o) (ap (spotOf s) e)
@@ -95,21 +95,8 @@ module _ {s : Section} {va : ℕ} {r : Located} (l : Locates s va 0 r) where
   entry-graphics {o} e = at-spot (spotIn s.graphics o) (ap (spotOf s) e)
 
   pub entry-refused : {x : Refusal} → r ≡ Refused x → refused (number x) ≡ entryAt s va
-  unfolding entryAt part standing
-  entry-refused {x} e = by (spot s va) (sym (ap (spotOf s) e) ∙ l .place)
-    where
-      by : (m : Res Spot) → refused (number x) ≡ (m >>= λ p. need 11 (leb (p .offset + 0) (length (p .half))) >>= λ u. done p) →
-          refused (number x) ≡ (m >>= (λ p. need 11 (leb (p .offset + 16) (length (p .half))) >>= λ u. done
-          (take 16 (drop (p .offset) (p .half)))) >>= λ b. done (entryOf b))
-      by (refused c) d = ap refused (cc)
-      by (done p) d = past (leb (p .offset + 0) (length (p .half))) refl d
-        where
-          past : (t : Bool) → leb (p .offset + 0) (length (p .half)) ≡ t → refused (number x) ≡ (need 11 t >>= λ u. done p) →
-              refused (number x) ≡ (need 11 (leb (p .offset + 16) (length (p .half))) >>= (λ u. done (take 16 (drop (p .offset) (p .half))))
-              >>= λ b. done (entryOf b))
-          past true t f = let z : _≡_ {A = ℕ} 0 1 = cc in absurd (omega arith)
-          past false t f = rw (lt-leb (p .offset + 16) (length (p .half)) (omega (arith, leb-false (p .offset + 0) (length (p .half)) t)))
-              (ap refused cc)
+  unfolding entryAt
+  entry-refused e = rw (refused-part l e) refl
 
 -- ---- what a caller learns of an entry's fields
 

@@ -61,11 +61,12 @@ fn fields_of(r: Read) -> Fields
     }
 }
 
-// The fields of the entry at an address, whose 16 bytes must stand: 10, 11.
+// The fields of the entry at an address, whose 16 bytes must stand: 10, 11. They are asked for at once, so that the compiler drops
+// the tests of each read.
 pub fn entry_at(sys: &[u8], gfx: &[u8], va: u64) -> Fields
     ensures answer { λ r. ⌜ meantFields r ≡ entryAt (section (now (sys .entry)) (now (gfx .entry))) va ⌝ }
 {
-    match places::locate(sys, gfx, va, 0) {
+    match places::locate(sys, gfx, va, format::ENTRY_SIZE) {
         Located::System(o) => fields_of(read_entry(sys, o, format::SYSTEM_BASE)),
         Located::Graphics(o) => fields_of(read_entry(gfx, o, format::GRAPHICS_BASE)),
         Located::Refused(r) => Fields::Refused(r),

@@ -1,4 +1,4 @@
--- `entry::entry_at` meets its contract: the legal cursor that `locate` names, and what is read there. Assumes nothing.
+-- `entry::entry_at` meets its contract: where `locate` finds the bytes, and what is read there. Assumes nothing.
 use borrow.Author.Needs.{needs}
 use mathlib.Core.Path.{ap, sym, _∙_}
 use native.Mathlib.Omega.{arith}
