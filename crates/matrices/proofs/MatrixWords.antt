@@ -1,5 +1,6 @@
 -- Laws of a bone's two matrices: they are what the calls give, put together, and have sixteen words. Assumes nothing.
-use Prim.Native.Nat.{ℕ, zero, suc}
+use Prim.Native.Nat.{ℕ, zero, suc, _-_}
+use native.Mathlib.Nat.{sub-zero}
 use mathlib.Core.Path.{_≡_, refl, ap}
 use mathlib.Core.List.{List, [], _∷_, map}
 use lib.ListN.{length, set, length-set, length-map}
@@ -14,9 +15,11 @@ use Rattle.format.specs.Bone.{Bone}
 use Rattle.format.specs.Matrices.{floats3, walk, localOf, inverseOf}
 use Rattle.bones.specs.declared.Words4.{Words4}
 use Rattle.bones.specs.Value.{ourWords4}
-use Rattle.matrices.specs.declared.matrices.Joint.{Joint}
-use Rattle.matrices.specs.declared.matrices.Pose.{Pose}
-use Rattle.matrices.specs.Transforming.{jointOf, ownPose, meantPose, inverseFrom}
+use Rattle.matrices.specs.declared.walk.Joint.{Joint}
+use Rattle.matrices.specs.declared.walk.Pose.{Pose}
+use Rattle.matrices.specs.declared.walk.Climber.{Climber}
+use Rattle.matrices.specs.Walking.{jointOf, ownPose, meantPose, standing, walkFrom}
+use Rattle.matrices.specs.Transforming.{inverseFrom}
 
 module _ {A B : Type 0} (f : A → B) where
   map-set : (l : List A) (i : ℕ) (a : A) → map f (set l i a) ≡ set (map f l) i (f a)
@@ -48,10 +51,16 @@ inverse-made s m i w em ei ew = rw (ew, ei, em)
 
 -- it is that of the bone whose walk ends there
 pub inverse-walked :
-    (bones : List (Bone Place)) (n : ℕ) (b : Bone Place) (j : Joint) (s : Pose) (w : List ℕ) → length bones ≡ n → j ≡ jointOf b
-    → meantPose s ≡ walk bones n (j .parent) (ownPose j) → w ≡ inverseFrom (meantPose s) → w ≡ inverseOf bones b
+    (bones : List (Bone Place)) (n k : ℕ) (b : Bone Place) (j : Joint) (c : Climber) → length bones ≡ n → j ≡ jointOf b
+    → walkFrom bones k c ≡ walk bones n (j .parent) (ownPose j) → inverseFrom (walkFrom bones k c) ≡ inverseOf bones b
 unfolding inverseFrom inverseOf
-inverse-walked bones n b j s w el ej es ew = simp (ew, es, ej, el)
+inverse-walked bones n k b j c el ej ec = simp (ec, ej, el)
+
+-- a bone before its first step has its whole walk before it
+pub walk-before :
+    (bones : List (Bone Place)) (n : ℕ) (j : Joint) (c : Climber) → standing c ≡ ownPose j → c .parent ≡ j .parent
+    → walkFrom bones (n - 0) c ≡ walk bones n (j .parent) (ownPose j)
+walk-before bones n j c es ep = rw (sub-zero, es, ep)
 
 pub length-inverse-of : (bones : List (Bone Place)) (b : Bone Place) → length (inverseOf bones b) ≡ 16
 unfolding inverseOf

@@ -10,6 +10,7 @@ use Rattle.format.specs.Section.{Place}
 use Rattle.format.specs.Bone.{Bone}
 use Rattle.format.specs.Rows.{laid, cleared, bonesOf}
 use Rattle.bones.specs.Row.{rowAt}
+use Rattle.matrices.specs.Transforming.{Placed, Continues}
 use Rattle.bones.proofs.Rows.{length-bones-of, bones-of-more}
 
 module _ (f : Bone Place → List ℕ) where
@@ -24,11 +25,6 @@ module _ (f : Bone Place → List ℕ) where
   unfolding flatMap
   rows-more p t = ap (flatMap f) (bones-of-more p t) ∙ flat-map-append (bonesOf p t) (rowAt t p ∷ [])
       ∙ ap (λ (l : List ℕ). flatMap f (bonesOf p t) ++ l) (append-nil (f (rowAt t p)))
-
--- the first p rows stand in d, and the rest is that of d₀
-pub record Placed (f : Bone Place → List ℕ) (t d₀ d : List ℕ) (p : ℕ) : Type 0 where
-  pub same : length d ≡ length d₀
-  pub is : d ≡ flatMap f (bonesOf p t) ++ drop (16 * p) d₀
 
 pub placed-none : {f : Bone Place → List ℕ} (t d : List ℕ) → Placed f t d d 0
 unfolding flatMap bonesOf
@@ -62,6 +58,48 @@ module _ (f : Bone Place → List ℕ) (size : (b : Bone Place) → length (f b)
             ed ∙ sets-eq w d (16 * p) fits
             ∙ rw (lw, h .is, take-at r rest (16 * p) lr, past, ew, add-one, rows-more f p t);
       }
+
+-- ---- from rows that stand to more of them
+
+pub continues-none : (f : Bone Place → List ℕ) (t : List ℕ) (p : ℕ) (d : List ℕ) → Continues f t p p d d
+continues-none f t p d = record { same = refl; placed = λ d₀ h. h }
+
+module _ (f : Bone Place → List ℕ) (size : (b : Bone Place) → length (f b) ≡ 16) where
+  pub continues-more :
+      {t d d₁ d₂ w : List ℕ} {p q : ℕ} → 16 * q + 16 ≤ length d → Continues f t p q d d₁ → w ≡ f (rowAt t q)
+      → d₂ ≡ sets d₁ (16 * q) w → Continues f t p (q + 1) d d₂
+  continues-more {d₁ = d₁} {w = w} {q = q} room h ew ed =
+      record {
+        same = ap length ed ∙ length-sets d₁ (16 * q) w ∙ h .same;
+        placed = λ d₀ k.
+            let g = h .placed d₀ k in
+            placed-more f size (omega (arith, room, h .same, g .same)) g ew ed;
+      }
+
+  -- four rows more
+  pub continues-four :
+      {t d d₁ d₂ d₃ d₄ w₁ w₂ w₃ w₄ : List ℕ} {p : ℕ} → 16 * p + 64 ≤ length d → w₁ ≡ f (rowAt t p) → d₁ ≡ sets d (16 * p) w₁
+      → w₂ ≡ f (rowAt t (p + 1)) → d₂ ≡ sets d₁ (16 * (p + 1)) w₂ → w₃ ≡ f (rowAt t (p + 2)) → d₃ ≡ sets d₂ (16 * (p + 2)) w₃
+      → w₄ ≡ f (rowAt t (p + 3)) → d₄ ≡ sets d₃ (16 * (p + 3)) w₄ → Continues f t p (p + 4) d d₄
+  continues-four {t = t} {d = d} {p = p} room e₁ s₁ e₂ s₂ e₃ s₃ e₄ s₄ =
+      let two : p + 1 + 1 ≡ p + 2 = omega arith in
+      let three : p + 2 + 1 ≡ p + 3 = omega arith in
+      let four : p + 3 + 1 ≡ p + 4 = omega arith in
+      let c₁ = continues-more (omega (arith, room)) (continues-none f t p d) e₁ s₁ in
+      let c₂ = rw two at (continues-more (omega (arith, room)) c₁ e₂ s₂) in
+      let c₃ = rw three at (continues-more (omega (arith, room)) c₂ e₃ s₃) in
+      rw four at (continues-more (omega (arith, room)) c₃ e₄ s₄)
+
+-- one stretch behind another
+pub continues-on :
+    {f : Bone Place → List ℕ} {t d d₁ d₂ : List ℕ} {p q r : ℕ} → Continues f t p q d d₁ → Continues f t q r d₁ d₂
+    → Continues f t p r d d₂
+continues-on g h = record { same = h .same ∙ g .same; placed = λ d₀ k. h .placed d₀ (g .placed d₀ k) }
+
+-- all of them
+pub continues-all :
+    {f : Bone Place → List ℕ} {t d d′ : List ℕ} {n : ℕ} → Continues f t 0 n d d′ → d′ ≡ flatMap f (bonesOf n t) ++ drop (16 * n) d
+continues-all {t = t} {d = d} h = h .placed d (placed-none t d) .is
 
 pub placed-all :
     {f : Bone Place → List ℕ} {t d₀ d : List ℕ} {p n : ℕ} → p ≡ n → Placed f t d₀ d p

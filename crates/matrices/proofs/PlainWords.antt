@@ -11,8 +11,8 @@ use lib.Ieee.{binary32, nanBits}
 use borrow.Author.Tests.{leb-true}
 use Rattle.math.proofs.Words.{up-to-infinity}
 use Rattle.format.specs.Rows.{boneWidth}
-use Rattle.matrices.specs.declared.matrices.JointWords.{JointWords}
-use Rattle.matrices.specs.Transforming.{Plain, PlainRow, PlainWords, jointWords}
+use Rattle.matrices.specs.declared.walk.JointWords.{JointWords}
+use Rattle.matrices.specs.Walking.{Plain, PlainRow, PlainWords, jointWords}
 
 pub plain-word : (w : ℕ) → Plain w → T (not (nanBits binary32 w))
 plain-word w e = up-to-infinity w (leb-true _ _ e)

@@ -17,9 +17,9 @@ use Rattle.format.specs.Matrices.{Pose, within, climb, boneAt, walk}
 use Rattle.format.specs.Rows.{boneWidth, boneOf, bonesOf}
 use Rattle.bones.specs.Row.{rowAt}
 use Rattle.bones.proofs.Rows.{row-at-suc, length-bones-of}
-use Rattle.matrices.specs.declared.matrices.Joint.{Joint}
-use Rattle.matrices.specs.declared.matrices.JointWords.{JointWords}
-use Rattle.matrices.specs.Transforming.{jointWords, meantJoint, jointOf}
+use Rattle.matrices.specs.declared.walk.Joint.{Joint}
+use Rattle.matrices.specs.declared.walk.JointWords.{JointWords}
+use Rattle.matrices.specs.Walking.{jointWords, meantJoint, jointOf}
 
 -- what the words of a row stand for is what the walk takes from its bone
 pub joint-made :
@@ -60,7 +60,7 @@ module _ (t : List ℕ) (n p : ℕ) (s : Pose) where
   unfolding walk
   walk-climbs k g h = rw (lt-leb 32768 p g, length-bones-of n t, lt-ltb p n h, bone-at-bones-of n p t h)
 
-  walk-up :
+  pub walk-up :
       (steps : ℕ) → p < 32768 → p < n → steps < n
       → walk (bonesOf n t) (n - steps) p s ≡ walk (bonesOf n t) (n - (steps + 1)) (rowAt t p .parent) (climb (rowAt t p) s)
   walk-up steps g h l = let e : n - steps ≡ suc (n - (steps + 1)) = omega arith in rw e (walk-climbs (n - (steps + 1)) g h)

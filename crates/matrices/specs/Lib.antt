@@ -1,1 +1,3 @@
+pub mod Walking
+pub mod Lanes
 pub mod Transforming

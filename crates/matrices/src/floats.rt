@@ -2,7 +2,7 @@
 ghost use mathlib.Core.Path.{_≡_};
 ghost use Rattle.math.specs.Word.{floatOf};
 ghost use Rattle.math.specs.Vector.{vec3, vec4};
-ghost use Rattle.matrices.specs.Transforming.{plainWord, Plain};
+ghost use Rattle.matrices.specs.Walking.{plainWord, Plain};
 use math::Vec3;
 use math::Vec4;
 use math::float_of;

@@ -1,28 +1,30 @@
 // `build_transformations`: each bone's inverse and local matrix, as rows of sixteen words in two tables.
 ghost use mathlib.Core.Path.{_≡_};
 ghost use mathlib.Core.Bool.{true};
-ghost use Prim.Native.Nat.{_+_, _*_, _≤_};
-ghost use lib.ListN.{length};
+ghost use mathlib.Core.List.{_++_};
+ghost use Prim.Native.Nat.{_+_, _-_, _*_, _≤_};
+ghost use lib.ListN.{length, drop};
 ghost use lib.Seq.{sets};
 ghost use Rattle.format.specs.Rows.{boneWidth, bonesOf};
-ghost use Rattle.format.specs.Matrices.{walk, localOf};
+ghost use Rattle.format.specs.Matrices.{localOf, inverseOf, inverses, locals};
 ghost use Rattle.bones.specs.Row.{rowAt};
 ghost use Rattle.tables.specs.Outcome.{roomFor, roomOf};
-ghost use Rattle.matrices.specs.Transforming.{matricesHold, matricesResult, transformedOf};
-ghost use Rattle.matrices.specs.Transforming.{jointWords, meantJoint, jointOf, ownPose, meantPose, inverseFrom};
-ghost use Rattle.matrices.specs.Transforming.{PlainWords, PlainRow, InTable, Walkable};
-ghost use Rattle.matrices.specs.Transforming.{MatrixRoom, MatricesFirst, MatrixRows};
-use crate::floats::floats3;
-use crate::floats::floats4;
-use crate::floats::plain;
-use crate::floats::plain3;
-use crate::floats::plain4;
+ghost use Rattle.matrices.specs.Walking.{jointOf, meantPose, walkFrom, Walkable};
+ghost use Rattle.matrices.specs.Transforming.{matricesHold, matricesResult, transformedOf, inverseFrom};
+ghost use Rattle.matrices.specs.Transforming.{MatrixRoom, MatricesFirst, MatrixRows, Continues};
+use crate::walk::Climber;
+use crate::walk::Joint;
+use crate::walk::Pose;
+use crate::walk::before;
+use crate::walk::joint_in;
+use crate::walk::plain_rows;
+use crate::walk::side_by_side;
+use crate::walk::walked;
 use bones::kept_at;
 use bones::scale_at;
 use format::Refusal;
 use math::Mat4;
 use math::Vec3;
-use math::Vec4;
 use tables::Room;
 use tables::clear32;
 use tables::clear32_from;
@@ -33,40 +35,8 @@ pub enum Transformed {
     Refused(Refusal),
 }
 
-// The words that the parent walk reads of a bone: a rotation, a translation and a parent.
-pub struct JointWords {
-    pub x: u32,
-    pub y: u32,
-    pub z: u32,
-    pub w: u32,
-    pub tx: u32,
-    pub ty: u32,
-    pub tz: u32,
-    pub parent: u16,
-}
-
-// What the parent walk takes from a bone.
-pub struct Joint {
-    pub rotation: Vec4,
-    pub translation: Vec3,
-    // a pattern, negative from 32768 on
-    pub parent: u16,
-}
-
-// Where the parent walk stands.
-pub struct Pose {
-    pub position: Vec3,
-    pub rotation: Vec4,
-}
-
 // the width of a matrix in words
 pub const MATRIX_WORDS: usize = 16;
-
-// the words of a row that the walk reads as floats, from the row's first on
-const JOINT_FLOATS: usize = 7;
-
-// the first pattern of a negative parent
-const NEGATIVE: u16 = 32768;
 
 // Whether there are few enough bones, in a table that holds them, and room for their matrices. 2 goes before 1.
 fn matrices_room(bones: usize, n: usize, inverse: usize, local: usize) -> Room
@@ -85,113 +55,6 @@ fn matrices_room(bones: usize, n: usize, inverse: usize, local: usize) -> Room
         return Room::Refused(Refusal::TableTooShort);
     }
     Room::Enough
-}
-
-// Whether none of the words that the walk reads as floats from row p is a NaN's.
-fn plain_row(bones: &[u32], p: usize) -> bool
-    requires { ⌜ boneWidth * p + boneWidth ≤ length (now bones) ⌝ }
-    ensures answer { λ r. ⌜ (r ≡ true → PlainRow (now (bones .entry)) p) ⌝ }
-{
-    let at = bones::BONE_WORDS * p;
-    let mut i = 0;
-    while i < JOINT_FLOATS {
-        if !plain(bones[at + i]) {
-            return false;
-        }
-        i += 1;
-    }
-    true
-}
-
-// Whether that holds of each of n rows. One pass, so that no step of a walk looks for a NaN where there is none.
-fn plain_rows(bones: &[u32], n: usize) -> bool
-    requires { ⌜ boneWidth * n ≤ length (now bones) ⌝ }
-    ensures answer { λ r. ⌜ Walkable r n (now (bones .entry)) ⌝ }
-{
-    let mut p = 0;
-    while p < n {
-        if !plain_row(bones, p) {
-            return false;
-        }
-        p += 1;
-    }
-    true
-}
-
-// The words in row p that the walk reads, with no test of bounds.
-fn words_in(bones: &[u32], p: usize) -> JointWords
-    requires { ⌜ boneWidth * p + boneWidth ≤ length (now bones) ⌝ }
-    ensures answer { λ r. ⌜ r ≡ jointWords (now (bones .entry)) p ⌝ }
-{
-    let at = bones::BONE_WORDS * p;
-    JointWords {
-        x: bones[at],
-        y: bones[at + 1],
-        z: bones[at + 2],
-        w: bones[at + 3],
-        tx: bones[at + 4],
-        ty: bones[at + 5],
-        tz: bones[at + 6],
-        parent: (bones[at + 10] / 65536) as u16,
-    }
-}
-
-// What these words stand for, a NaN among them or not.
-fn any_joint(r: JointWords) -> Joint
-    ensures answer { λ j. ⌜ j ≡ meantJoint r ⌝ }
-{
-    Joint {
-        rotation: floats4(r.x, r.y, r.z, r.w),
-        translation: floats3(r.tx, r.ty, r.tz),
-        parent: r.parent,
-    }
-}
-
-// The same where none of them is a NaN's: they are taken as they stand.
-fn plain_joint(r: JointWords) -> Joint
-    requires { ⌜ PlainWords r ⌝ }
-    ensures answer { λ j. ⌜ j ≡ meantJoint r ⌝ }
-{
-    Joint {
-        rotation: plain4(r.x, r.y, r.z, r.w),
-        translation: plain3(r.tx, r.ty, r.tz),
-        parent: r.parent,
-    }
-}
-
-// What the walk takes from the bone in row p, one of n; `plain` says that no row has a NaN.
-fn joint_in(bones: &[u32], n: usize, p: usize, plain: bool) -> Joint
-    requires { ⌜ InTable plain n p (now bones) ⌝ }
-    ensures answer { λ r. ⌜ r ≡ jointOf (rowAt (now (bones .entry)) p) ⌝ }
-{
-    let w = words_in(bones, p);
-    if plain {
-        return plain_joint(w);
-    }
-    any_joint(w)
-}
-
-// Where the walk from a bone ends, `own` being what it takes from the bone itself. It climbs while the parent is the position of
-// one of the n bones and fewer than n steps are done.
-fn walked(bones: &[u32], n: usize, own: Joint, plain: bool) -> Pose
-    requires { ⌜ Walkable plain n (now bones) ⌝ }
-    ensures answer { λ r. ⌜ meantPose r ≡ walk (bonesOf n (now (bones .entry))) n (own .parent) (ownPose own) ⌝ }
-{
-    let mut position = own.translation;
-    let mut rotation = own.rotation;
-    let mut p = own.parent;
-    let mut steps = 0;
-    while p < NEGATIVE && (p as usize) < n && steps < n {
-        let parent = joint_in(bones, n, p as usize, plain);
-        rotation = parent.rotation.quat_mul(rotation);
-        position = parent
-            .rotation
-            .quat_rotate(position)
-            .add(parent.translation);
-        p = parent.parent;
-        steps += 1;
-    }
-    Pose { position, rotation }
 }
 
 // The inverse matrix of a bone whose walk ends there. Column 4 is four +0.
@@ -242,6 +105,113 @@ fn put_matrix(t: &mut [u32], at: usize, w: [u32; 16])
     }
 }
 
+// Stores in row p the inverse matrix of a bone whose walk stands there with so many steps done.
+fn put_inverse(
+    bones: &[u32],
+    n: usize,
+    p: usize,
+    from: Climber,
+    done: usize,
+    inverse: &mut [u32],
+    plain: bool,
+)
+    requires { ⌜ Walkable plain n (now bones) × (16 * p + 16 ≤ length (now inverse)) ⌝ }
+    ensures rows { λ _.
+        ⌜
+        now (inverse .exit) ≡
+        sets (now (inverse .entry)) (16 * p) (inverseFrom (walkFrom (bonesOf n (now (bones .entry))) (n - done) from))
+        ⌝ }
+{
+    let end = walked(bones, n, from, done, plain);
+    put_matrix(inverse, MATRIX_WORDS * p, inverse_words(end));
+}
+
+// Stores the inverse matrices of the bones in rows p to p + 3. No row has a NaN.
+fn put_four(bones: &[u32], n: usize, p: usize, inverse: &mut [u32])
+    requires { ⌜ Walkable true n (now bones) × (p + 4 ≤ n) × (16 * n ≤ length (now inverse)) ⌝ }
+    ensures rows { λ _.
+        ⌜
+        Continues (inverseOf (bonesOf n (now (bones .entry)))) (now (bones .entry)) p (p + 4)
+        (now (inverse .entry)) (now (inverse .exit))
+        ⌝ }
+{
+    let a = joint_in(bones, n, p, true);
+    let b = joint_in(bones, n, p + 1, true);
+    let c = joint_in(bones, n, p + 2, true);
+    let d = joint_in(bones, n, p + 3, true);
+    let f = side_by_side(bones, n, a, b, c, d);
+    put_inverse(bones, n, p, f.a, f.steps, &mut *inverse, true);
+    put_inverse(bones, n, p + 1, f.b, f.steps, &mut *inverse, true);
+    put_inverse(bones, n, p + 2, f.c, f.steps, &mut *inverse, true);
+    put_inverse(bones, n, p + 3, f.d, f.steps, &mut *inverse, true);
+}
+
+// Stores the inverse matrices of the first bones, four at a time, and gives their number: fewer than four are left.
+fn put_fours(bones: &[u32], n: usize, inverse: &mut [u32]) -> usize
+    requires { ⌜ Walkable true n (now bones) × (16 * n ≤ length (now inverse)) ⌝ }
+    ensures number { λ r. ⌜ r ≤ n ⌝ }
+    ensures rows { λ r.
+        ⌜
+        Continues (inverseOf (bonesOf n (now (bones .entry)))) (now (bones .entry)) 0 r
+        (now (inverse .entry)) (now (inverse .exit))
+        ⌝ }
+{
+    let mut p = 0;
+    while 4 <= n - p {
+        put_four(bones, n, p, &mut *inverse);
+        p += 4;
+    }
+    p
+}
+
+// Stores the inverse matrices of the bones from row `from` on, those below being stored; the words behind row n stay.
+fn put_rest(bones: &[u32], n: usize, from: usize, inverse: &mut [u32], plain: bool)
+    requires { ⌜ Walkable plain n (now bones) × (from ≤ n) × (16 * n ≤ length (now inverse)) ⌝ }
+    ensures rows { λ _.
+        ⌜
+        Continues (inverseOf (bonesOf n (now (bones .entry)))) (now (bones .entry)) from n
+        (now (inverse .entry)) (now (inverse .exit))
+        ⌝ }
+{
+    let mut p = from;
+    while p < n {
+        let own = joint_in(bones, n, p, plain);
+        put_inverse(bones, n, p, before(own), 0, &mut *inverse, plain);
+        p += 1;
+    }
+}
+
+// Stores the inverse matrices of the first n bones; the words behind them stay. `plain` says that no row has a NaN.
+fn put_inverses(bones: &[u32], n: usize, inverse: &mut [u32], plain: bool)
+    requires { ⌜ Walkable plain n (now bones) × (16 * n ≤ length (now inverse)) ⌝ }
+    ensures rows { λ _.
+        ⌜
+        now (inverse .exit) ≡
+        inverses (bonesOf n (now (bones .entry))) ++ drop (16 * n) (now (inverse .entry))
+        ⌝ }
+{
+    if plain {
+        let p = put_fours(bones, n, &mut *inverse);
+        put_rest(bones, n, p, &mut *inverse, true);
+        return;
+    }
+    put_rest(bones, n, 0, &mut *inverse, false);
+}
+
+// Stores the local matrices of the first n bones; the words behind them stay.
+fn put_locals(bones: &[u32], n: usize, local: &mut [u32], plain: bool)
+    requires { ⌜ Walkable plain n (now bones) × (16 * n ≤ length (now local)) ⌝ }
+    ensures rows { λ _.
+        ⌜ now (local .exit) ≡ locals (bonesOf n (now (bones .entry))) ++ drop (16 * n) (now (local .entry)) ⌝ }
+{
+    let mut p = 0;
+    while p < n {
+        let own = joint_in(bones, n, p, plain);
+        put_matrix(&mut *local, MATRIX_WORDS * p, local_words(bones, p, own));
+        p += 1;
+    }
+}
+
 // Stores the matrices of the first n bones; the words behind them stay.
 fn put_matrices(bones: &[u32], n: usize, inverse: &mut [u32], local: &mut [u32])
     requires { ⌜ MatrixRoom n (now bones) (now inverse) (now local) ⌝ }
@@ -252,15 +222,8 @@ fn put_matrices(bones: &[u32], n: usize, inverse: &mut [u32], local: &mut [u32])
         ⌝ }
 {
     let plain = plain_rows(bones, n);
-    let mut p = 0;
-    while p < n {
-        let at = MATRIX_WORDS * p;
-        let own = joint_in(bones, n, p, plain);
-        put_matrix(&mut *local, at, local_words(bones, p, own));
-        let end = walked(bones, n, own, plain);
-        put_matrix(&mut *inverse, at, inverse_words(end));
-        p += 1;
-    }
+    put_locals(bones, n, local, plain);
+    put_inverses(bones, n, inverse, plain);
 }
 
 // The inverse and the local matrices of the first n bones of a table, sixteen words each, zeros behind them. Refuses 2 above

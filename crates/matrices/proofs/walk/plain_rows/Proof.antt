@@ -1,13 +1,13 @@
--- `matrices::matrices::plain_rows` meets its contract. The loop's invariant: the first p rows have no NaN. Assumes nothing.
+-- `matrices::walk::plain_rows` meets its contract. The loop's invariant: the first p rows have no NaN. Assumes nothing.
 use Prim.Native.Nat.{ℕ, _≤_, _<_, _-_}
 use mathlib.Core.Path.{sym}
 use native.Mathlib.Omega.{arith}
 use borrow.Author.Count.{below-none, below-more}
 use borrow.Author.Tests.{not-false}
-use Rattle.matrices.specs.Transforming.{PlainRow}
+use Rattle.matrices.specs.Walking.{PlainRow}
 use Rattle.matrices.proofs.PlainWords.{true-is-not-false}
-use Rattle.matrices.proofs.matrices.plain_rows.Statement.{statement}
-use Rattle.matrices.proofs.matrices.plain_rows.Tie as tie
+use Rattle.matrices.proofs.walk.plain_rows.Statement.{statement}
+use Rattle.matrices.proofs.walk.plain_rows.Tie as tie
 
 abbrev Inv-loop : tie.InvT-loop
 Inv-loop bones n p₀ p = (p ≤ n) × ((q : ℕ) → q < p → PlainRow bones q)

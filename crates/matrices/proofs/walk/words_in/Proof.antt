@@ -1,9 +1,9 @@
--- `matrices::matrices::words_in` meets its contract: the words read are the row's. Assumes nothing.
+-- `matrices::walk::words_in` meets its contract: the words read are the row's. Assumes nothing.
 use borrow.Author.Needs.{needs}
 use Prim.Native.Nat.{_+_, _*_}
 use native.Mathlib.Omega.{arith}
-use Rattle.matrices.proofs.matrices.words_in.Statement.{statement}
-use Rattle.matrices.proofs.matrices.words_in.Tie as tie
+use Rattle.matrices.proofs.walk.words_in.Statement.{statement}
+use Rattle.matrices.proofs.walk.words_in.Tie as tie
 
 mul-at : tie.Need-mul-at
 mul-at c = search needs

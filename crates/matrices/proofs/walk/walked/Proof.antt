@@ -1,27 +1,26 @@
--- `matrices::matrices::walked` meets its contract. The loop's invariant: the walk from here, with the steps that are left, ends
+-- `matrices::walk::walked` meets its contract. The loop's invariant: the walk from here, with the steps that are left, ends
 -- where the whole walk ends. Assumes nothing.
 use borrow.Author.Needs.{needs}
-use Prim.Native.Nat.{_≤_, _-_}
-use mathlib.Core.Path.{_≡_, sym, _∙_}
+use Prim.Native.Nat.{_-_}
+use mathlib.Core.Path.{_≡_, refl, sym, _∙_}
 use native.Mathlib.Omega.{arith}
 use borrow.Author.Tests.{ltb-true, ltb-false}
 use Rattle.format.specs.Matrices.{walk}
 use Rattle.format.specs.Rows.{bonesOf}
-use Rattle.matrices.proofs.Walking.{walk-starts, walk-turn, walk-spent, walk-outside, walk-negative}
-use Rattle.matrices.proofs.matrices.walked.Statement.{statement}
-use Rattle.matrices.proofs.matrices.walked.Tie as tie
+use Rattle.matrices.proofs.Walking.{walk-turn, walk-spent, walk-outside, walk-negative}
+use Rattle.matrices.proofs.walk.walked.Statement.{statement}
+use Rattle.matrices.proofs.walk.walked.Tie as tie
 
 abbrev Inv-loop : tie.InvT-loop
-Inv-loop bones n plain position₀ rotation₀ p₀ steps₀ position rotation p steps =
-    (walk (bonesOf n bones) (n - steps) p (record { position = position; rotation = rotation })
-    ≡ walk (bonesOf n bones) n p₀ (record { position = position₀; rotation = rotation₀ }))
-    × (steps ≤ n)
+Inv-loop bones n done plain position₀ rotation₀ p₀ steps₀ position rotation p steps =
+    walk (bonesOf n bones) (n - steps) p (record { position = position; rotation = rotation })
+    ≡ walk (bonesOf n bones) (n - steps₀) p₀ (record { position = position₀; rotation = rotation₀ })
 
 abbrev μ-loop : tie.MeasureT-loop
-μ-loop bones n plain position₀ rotation₀ p₀ steps₀ position rotation p steps = n - steps
+μ-loop bones n done plain position₀ rotation₀ p₀ steps₀ position rotation p steps = n - steps
 
 loop-holds : tie.Need-loop-holds Inv-loop μ-loop
-loop-holds c = (walk-starts _ _ _ _, omega arith)
+loop-holds c = refl
 
 cast-if1 : tie.Need-cast-if1 Inv-loop μ-loop
 cast-if1 c = omega arith
@@ -53,23 +52,21 @@ loop-less c = omega (arith, ltb-true)
 loop-again : tie.Need-loop-again Inv-loop μ-loop
 loop-again c =
     let m = c .before .before .before in
-    let h = m .before in (
-      walk-turn _ _ _ _ _ _ _ _ _ _ _ (h .before .before .loop-test .taken) (ltb-true _ _ (h .before .if1 .taken))
-          (ltb-true _ _ (h .if2 .taken)) (m .joint-in .ensures) (c .before .quat-rotate .ensures) (c .add .ensures)
-          (c .before .before .quat-mul .ensures) (h .before .before .before .loop .inv .0),
-      omega (arith, ltb-true),
-    )
+    let h = m .before in
+    walk-turn _ _ _ _ _ _ _ _ _ _ _ (h .before .before .loop-test .taken) (ltb-true _ _ (h .before .if1 .taken))
+    (ltb-true _ _ (h .if2 .taken)) (m .joint-in .ensures) (c .before .quat-rotate .ensures) (c .add .ensures)
+    (c .before .before .quat-mul .ensures) (h .before .before .before .loop .inv)
 
 returns : tie.Need-returns Inv-loop μ-loop
-returns c = sym (walk-spent _ _ _ _ _ (ltb-false _ _ (c .if2 .left))) ∙ c .before .before .before .loop .inv .0
+returns c = sym (walk-spent _ _ _ _ _ (ltb-false _ _ (c .if2 .left))) ∙ c .before .before .before .loop .inv
 
 returns-2 : tie.Need-returns-2 Inv-loop μ-loop
 returns-2 c =
     let t = c .before in
-    sym (walk-outside _ _ _ _ _ (t .loop-test .taken) (ltb-false _ _ (c .if1 .left))) ∙ t .before .loop .inv .0
+    sym (walk-outside _ _ _ _ _ (t .loop-test .taken) (ltb-false _ _ (c .if1 .left))) ∙ t .before .loop .inv
 
 returns-3 : tie.Need-returns-3 Inv-loop μ-loop
-returns-3 c = sym (walk-negative _ _ _ _ _ (c .loop-test .left)) ∙ c .before .loop .inv .0
+returns-3 c = sym (walk-negative _ _ _ _ _ (c .loop-test .left)) ∙ c .before .loop .inv
 
 pub walked-spec : {M : Type 1} → statement M
 walked-spec =

@@ -1,7 +1,7 @@
--- `matrices::matrices::any_joint` meets its contract: what the calls ensure, put together. Assumes nothing.
+-- `matrices::walk::any_joint` meets its contract: what the calls ensure, put together. Assumes nothing.
 use borrow.Author.Needs.{needs}
-use Rattle.matrices.proofs.matrices.any_joint.Statement.{statement}
-use Rattle.matrices.proofs.matrices.any_joint.Tie as tie
+use Rattle.matrices.proofs.walk.any_joint.Statement.{statement}
+use Rattle.matrices.proofs.walk.any_joint.Tie as tie
 
 floats4-requires : tie.Need-floats4-requires
 floats4-requires c κs = search needs

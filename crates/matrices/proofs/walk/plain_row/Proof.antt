@@ -1,4 +1,4 @@
--- `matrices::matrices::plain_row` meets its contract. The loop's invariant: the first i words are no NaN's. Assumes nothing.
+-- `matrices::walk::plain_row` meets its contract. The loop's invariant: the first i words are no NaN's. Assumes nothing.
 use borrow.Author.Needs.{needs}
 use Prim.Native.Nat.{ℕ, _≤_, _<_, _+_, _-_, _*_}
 use mathlib.Core.Path.{sym, _∙_}
@@ -6,10 +6,10 @@ use native.Mathlib.Omega.{arith}
 use borrow.Author.Count.{below-none, below-more}
 use borrow.Author.Tests.{not-false}
 use lib.ListN.{getD}
-use Rattle.matrices.specs.Transforming.{Plain}
+use Rattle.matrices.specs.Walking.{Plain}
 use Rattle.matrices.proofs.PlainWords.{plain-all, true-is-not-false}
-use Rattle.matrices.proofs.matrices.plain_row.Statement.{statement}
-use Rattle.matrices.proofs.matrices.plain_row.Tie as tie
+use Rattle.matrices.proofs.walk.plain_row.Statement.{statement}
+use Rattle.matrices.proofs.walk.plain_row.Tie as tie
 
 abbrev Inv-loop : tie.InvT-loop
 Inv-loop bones p at i₀ i = (i ≤ 7) × ((k : ℕ) → k < i → Plain (getD bones (21 * p + k) 0))

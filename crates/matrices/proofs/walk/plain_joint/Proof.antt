@@ -1,7 +1,7 @@
--- `matrices::matrices::plain_joint` meets its contract: what the calls ensure, put together. Assumes nothing.
+-- `matrices::walk::plain_joint` meets its contract: what the calls ensure, put together. Assumes nothing.
 use borrow.Author.Needs.{needs}
-use Rattle.matrices.proofs.matrices.plain_joint.Statement.{statement}
-use Rattle.matrices.proofs.matrices.plain_joint.Tie as tie
+use Rattle.matrices.proofs.walk.plain_joint.Statement.{statement}
+use Rattle.matrices.proofs.walk.plain_joint.Tie as tie
 
 plain4-requires : tie.Need-plain4-requires
 plain4-requires c κs = search needs

@@ -1,9 +1,9 @@
--- `matrices::matrices::joint_in` meets its contract. Assumes nothing.
+-- `matrices::walk::joint_in` meets its contract. Assumes nothing.
 use borrow.Author.Needs.{needs}
 use Rattle.matrices.proofs.PlainWords.{plain-words}
 use Rattle.matrices.proofs.Walking.{joint-made}
-use Rattle.matrices.proofs.matrices.joint_in.Statement.{statement}
-use Rattle.matrices.proofs.matrices.joint_in.Tie as tie
+use Rattle.matrices.proofs.walk.joint_in.Statement.{statement}
+use Rattle.matrices.proofs.walk.joint_in.Tie as tie
 
 words-in-requires : tie.Need-words-in-requires
 words-in-requires c κs = search needs

@@ -1,0 +1,108 @@
+-- `matrices::matrices::put_four` meets its contract. Assumes nothing.
+use borrow.Author.Needs.{needs}
+use native.Mathlib.Omega.{arith}
+use Rattle.bones.proofs.Rows.{length-bones-of}
+use Rattle.matrices.proofs.MatrixWords.{length-inverse-of, inverse-walked}
+use Rattle.matrices.proofs.Placing.{continues-four}
+use Rattle.matrices.proofs.matrices.put_four.Statement.{statement}
+use Rattle.matrices.proofs.matrices.put_four.Tie as tie
+
+joint-in-requires : tie.Need-joint-in-requires
+joint-in-requires c κs = search needs
+
+add-joint-in : tie.Need-add-joint-in
+add-joint-in c = search needs
+
+joint-in-requires-2 : tie.Need-joint-in-requires-2
+joint-in-requires-2 c κs = search needs
+
+add-joint-in-2 : tie.Need-add-joint-in-2
+add-joint-in-2 c = search needs
+
+joint-in-requires-3 : tie.Need-joint-in-requires-3
+joint-in-requires-3 c κs = search needs
+
+add-joint-in-3 : tie.Need-add-joint-in-3
+add-joint-in-3 c = search needs
+
+joint-in-requires-4 : tie.Need-joint-in-requires-4
+joint-in-requires-4 c κs = search needs
+
+side-by-side-requires : tie.Need-side-by-side-requires
+side-by-side-requires c κs = search needs
+
+put-inverse-requires : tie.Need-put-inverse-requires
+put-inverse-requires c κs =
+    let s = c .before .before .before .before .before .before .before .before in
+    (s .pre .0, omega (arith, s .pre .1, s .pre .2))
+
+add-put-inverse : tie.Need-add-put-inverse
+add-put-inverse c = omega (arith, c .before .before .before .before .before .before .before .before .before .before .before .pre .1, c .before .before .before .before .before .before .before .before .before .before .before .fits .n)
+
+put-inverse-requires-2 : tie.Need-put-inverse-requires-2
+put-inverse-requires-2 c κs =
+    let s = c .before .before .before .before .before .before .before .before .before .before .before .before in
+    (s .pre .0, omega (arith, s .pre .1, s .pre .2, c .before .before .before .put-inverse .kept .1 .1 .1 .1 .1 .0))
+
+add-put-inverse-2 : tie.Need-add-put-inverse-2
+add-put-inverse-2 c = omega (arith, c .before .before .before .before .before .before .before .before .before .before .before .before .before .before .before .pre .1, c .before .before .before .before .before .before .before .before .before .before .before .before .before .before .before .fits .n)
+
+put-inverse-requires-3 : tie.Need-put-inverse-requires-3
+put-inverse-requires-3 c κs =
+    let s = c .before .before .before .before .before .before .before .before .before .before .before .before .before .before .before .before in
+    let a = c .before .before .before .put-inverse2 .kept .1 .1 .1 .1 .1 .0 in
+    let b = c .before .before .before .before .before .before .before .put-inverse .kept .1 .1 .1 .1 .1 .0 in
+    (s .pre .0, omega (arith, s .pre .1, s .pre .2, a, b))
+
+add-put-inverse-3 : tie.Need-add-put-inverse-3
+add-put-inverse-3 c = omega (arith, c .before .before .before .before .before .before .before .before .before .before .before .before .before .before .before .before .before .before .before .pre .1, c .before .before .before .before .before .before .before .before .before .before .before .before .before .before .before .before .before .before .before .fits .n)
+
+put-inverse-requires-4 : tie.Need-put-inverse-requires-4
+put-inverse-requires-4 c κs =
+    let s = c .before .before .before .before .before .before .before .before .before .before .before .before .before .before .before .before .before .before .before .before in
+    let a = c .before .before .before .put-inverse3 .kept .1 .1 .1 .1 .1 .0 in
+    let b = c .before .before .before .before .before .before .before .put-inverse2 .kept .1 .1 .1 .1 .1 .0 in
+    let d = c .before .before .before .before .before .before .before .before .before .before .before .put-inverse .kept .1 .1 .1 .1 .1 .0 in
+    (s .pre .0, omega (arith, s .pre .1, s .pre .2, a, b, d))
+
+same-length : tie.Need-same-length
+same-length c = search needs
+
+returns : tie.Need-returns
+returns c =
+    let z = c .before .before in
+    let y = z .before .before .before .before in
+    let x = y .before .before .before .before in
+    let w = x .before .before .before .before in
+    let s = w .before .before in
+    let j = s .before in
+    let t = s .before .before .before .before .before .before .before in
+    let l = length-bones-of _ _ in
+    continues-four _ (length-inverse-of _) (omega (arith, t .pre .1, t .pre .2))
+    (inverse-walked _ _ _ _ _ _ l (j .before .before .before .joint-in .ensures) (s .side-by-side .ensures .first)) (w .put-inverse .ensures)
+    (inverse-walked _ _ _ _ _ _ l (j .before .before .joint-in2 .ensures) (s .side-by-side .ensures .second))
+    (x .put-inverse2 .ensures)
+    (inverse-walked _ _ _ _ _ _ l (j .before .joint-in3 .ensures) (s .side-by-side .ensures .third)) (y .put-inverse3 .ensures)
+    (inverse-walked _ _ _ _ _ _ l (j .joint-in4 .ensures) (s .side-by-side .ensures .fourth)) (z .put-inverse4 .ensures)
+
+pub put-four-spec : {M : Type 1} → statement M
+put-four-spec =
+    tie.close
+    (tie.spec
+    joint-in-requires
+    add-joint-in
+    joint-in-requires-2
+    add-joint-in-2
+    joint-in-requires-3
+    add-joint-in-3
+    joint-in-requires-4
+    side-by-side-requires
+    put-inverse-requires
+    add-put-inverse
+    put-inverse-requires-2
+    add-put-inverse-2
+    put-inverse-requires-3
+    add-put-inverse-3
+    put-inverse-requires-4
+    same-length
+    returns)
