@@ -1,7 +1,7 @@
 -- One limit: its record read into a row, and its row written as a record (document 01, "Joints and names"), for either kind by
 -- the
 -- slots of least and greatest. In order: runs of a list by its elements; a row read; a record written. Assumes nothing.
-use mathlib.Core.Path.{_≡_, refl, sym, _∙_}
+use mathlib.Core.Path.{_≡_, refl, _∙_}
 use mathlib.Core.List.{List, [], _∷_}
 use Prim.Native.Nat.{ℕ, suc, _+_, _-_, _*_, _≤_}
 use native.Mathlib.Numerals.{add-one, add-two, add-four, add-seven}
@@ -11,7 +11,7 @@ use lib.Seq.{drop-cons, drop-drop, sets, length-sets, length-take-le}
 use Rattle.format.specs.Field.{words, wordBytes}
 use Rattle.format.specs.Joints.{threeWords, threeAt}
 use Rattle.joints.specs.Limit.{limitWords, limitSlots, Shaped}
-use Rattle.joints.proofs.WordLists.{length-words, words-part, length-wordBytes, sets-within, wordBytes-sets}
+use Rattle.joints.proofs.WordLists.{length-words, words-at, length-wordBytes, sets-within, wordBytes-sets}
 
 -- ---- a run of a list by its elements
 
@@ -31,11 +31,6 @@ module _ (least greatest slots : ℕ) (shape : Shaped least greatest slots) (s :
   own : List ℕ
   own = words 4 slots (drop from s)
 
-  -- n words at slot j of the record
-  words-at : (n j : ℕ) → j + n ≤ slots → words 4 n (drop (from + 4 * j) s) ≡ take n (drop j own)
-  unfolding own
-  words-at n j h = rw (← drop-drop (4 * j) from s) (sym (words-part 4 slots n j (drop from s) h))
-
   pub load-row :
       (t₀ : List ℕ) (to : ℕ) {t₁ t₂ t₃ t₄ : List ℕ} →
       t₁ ≡ sets t₀ to (words 4 1 (drop (from + 8) s)) →
@@ -47,11 +42,11 @@ module _ (least greatest slots : ℕ) (shape : Shaped least greatest slots) (s :
   load-row t₀ to {t₁} {t₂} {t₃} {t₄} e₁ e₂ e₃ e₄ =
       let l : length own ≡ slots = length-words 4 slots (drop from s) in
       let i : words 4 1 (drop (from + 8) s) ≡ getD own 2 0 ∷ [] =
-      words-at 1 2 (omega (arith, shape .id)) ∙ one-at own 2 (omega (arith, shape .id)) in
+      words-at 4 slots 1 2 s from (omega (arith, shape .id)) ∙ one-at own 2 (omega (arith, shape .id)) in
       let a : words 4 3 (drop (from + 4 * least) s) ≡ threeWords (threeAt own least) =
-      words-at 3 least (shape .low) ∙ three-at own least (omega (arith, shape .low)) in
+      words-at 4 slots 3 least s from (shape .low) ∙ three-at own least (omega (arith, shape .low)) in
       let b : words 4 3 (drop (from + 4 * greatest) s) ≡ threeWords (threeAt own greatest) =
-      words-at 3 greatest (shape .high) ∙ three-at own greatest (omega (arith, shape .high)) in
+      words-at 4 slots 3 greatest s from (shape .high) ∙ three-at own greatest (omega (arith, shape .high)) in
       e₄ ∙ simp (e₃, e₂, e₁, i, a, b, add-one to, add-four to, add-seven to)
 
 -- ---- a row written as a record

@@ -8,13 +8,13 @@ use native.Mathlib.Nat.{mul-zero, mul-suc, sub-zero}
 use native.Mathlib.Numerals.{add-one}
 use native.Mathlib.Omega.{arith}
 use lib.ListN.{length, getD, take, drop, length-set, length-drop}
-use lib.Seq.{drop-drop, take-take, getD-take, sets, length-sets, length-take-le}
+use lib.Seq.{take-take, getD-take, sets, length-sets, length-take-le}
 use Rattle.format.specs.Field.{words, wordBytes}
 use Rattle.format.specs.Rows.{laid, cleared}
 use Rattle.format.specs.Joints.{limitRows}
 use Rattle.fields.proofs.Stores.{sets-append}
 use Rattle.joints.specs.Limit.{limitWords, limitSlots, rowWords, recordSlots}
-use Rattle.joints.proofs.WordLists.{drop-take, length-words, words-part, length-wordBytes, wordBytes-append}
+use Rattle.joints.proofs.WordLists.{drop-take, length-words, words-at, length-wordBytes, wordBytes-append}
 use Rattle.joints.proofs.RowLists.{row-before, made-suc, length-made, sets-laid}
 
 -- ---- the sizes of a row and of a record
@@ -93,7 +93,7 @@ module _
         let before : List ℕ = flatMap f (limitRows slots i all) in
         let inside : slots * i + slots ≤ slots * n = row-before slots i n h in
         let own : words 4 slots (drop from s) ≡ take slots (drop (slots * i) all) =
-        rw (r .place, ← drop-drop (4 * (slots * i)) at s) (sym (words-part 4 (slots * n) slots (slots * i) (drop at s) inside)) in
+        rw (r .place) (words-at 4 (slots * n) slots (slots * i) s at inside) in
         let size : length before ≡ (7 + slots) * i =
         length-made f slots (7 + slots) i all (λ x q. length-limitWords least greatest x ∙ ap (λ (y : ℕ). 7 + y) q)
         (rw length-words (omega arith)) in

@@ -34,11 +34,6 @@ words-add k (suc m) n s =
     let f : k + k * m ≡ k * suc m = simp mul-suc (omega arith) in
     simp (e, words-add k m n (drop k s), drop-drop, f)
 
--- one more word
-pub words-suc : (k m : ℕ) (s : List ℕ) → words k (m + 1) s ≡ words k m s ++ (field k s (k * m) ∷ [])
-unfolding words
-words-suc k m s = words-add k m 1 s
-
 pub getD-words : (k m : ℕ) (s : List ℕ) (j : ℕ) → j < m → getD (words k m s) j 0 ≡ field k s (k * j)
 unfolding words
 getD-words k zero s j h = absurd (omega arith)
@@ -60,6 +55,13 @@ words-part k m n i s h =
     let e : i + (n + (m - (i + n))) ≡ m = omega arith in
     rw e at (words-middle k i n (m - (i + n)) s)
 
+-- of the m words from `from` on, n behind the i-th
+pub words-at :
+    (k m n i : ℕ) (s : List ℕ) (from : ℕ) →
+    i + n ≤ m →
+    words k n (drop (from + k * i) s) ≡ take n (drop i (words k m (drop from s)))
+words-at k m n i s from h = rw (← drop-drop (k * i) from s) (sym (words-part k m n i (drop from s) h))
+
 -- words of the front of a list
 pub words-take : (k m : ℕ) (s : List ℕ) → words k m (take (k * m) s) ≡ words k m s
 unfolding words
@@ -69,6 +71,10 @@ words-take k (suc m) s =
     let d : drop k (take (k + k * m) s) ≡ take (k * m) (drop k s) = drop-take k (k * m) s in
     let t : take k (take (k + k * m) s) ≡ take k s = take-take k (k + k * m) s (omega arith) in
     simp (f, d, t, words-take k m (drop k s))
+
+-- words of just their bytes
+pub words-cut : (k m : ℕ) (s : List ℕ) (at : ℕ) → words k m (take (at + k * m - at) (drop at s)) ≡ words k m (drop at s)
+words-cut k m s at = let e : at + k * m - at ≡ k * m = omega arith in rw e (words-take k m (drop at s))
 
 -- ---- the bytes of words
 
