@@ -13,14 +13,14 @@ const SIGN_BIT: u32 = 0x8000_0000;
 const INFINITY_WORD: u32 = 0x7F80_0000;
 
 // Whether a word is no NaN's.
-pub fn plain(w: u32) -> bool
+pub(crate) fn plain(w: u32) -> bool
     ensures answer { λ r. ⌜ r ≡ plainWord w ⌝ }
 {
     w % SIGN_BIT <= INFINITY_WORD
 }
 
 // The floats of three words.
-pub fn floats3(x: u32, y: u32, z: u32) -> Vec3
+pub(crate) fn floats3(x: u32, y: u32, z: u32) -> Vec3
     ensures answer { λ r. ⌜ r ≡ vec3 (floatOf x) (floatOf y) (floatOf z) ⌝ }
 {
     Vec3 {
@@ -31,7 +31,7 @@ pub fn floats3(x: u32, y: u32, z: u32) -> Vec3
 }
 
 // The floats of four words.
-pub fn floats4(x: u32, y: u32, z: u32, w: u32) -> Vec4
+pub(crate) fn floats4(x: u32, y: u32, z: u32, w: u32) -> Vec4
     ensures answer { λ r. ⌜ r ≡ vec4 (floatOf x) (floatOf y) (floatOf z) (floatOf w) ⌝ }
 {
     Vec4 {
