@@ -73,6 +73,7 @@ module _ (t : List ℕ) (a : ℕ) where
     pub placed-high : i < rowsOf t → Placed t a i
     placed-high l =
         record {
+          high = omega arith;
           reaches =
               λ l.
               reaches-high (rowsOf t) (key t) a i l (omega (arith, s .low))
@@ -88,6 +89,7 @@ module _ (t : List ℕ) (a : ℕ) where
       pub placed-low : j < h → h < rowsOf t → Placed t a j
       placed-low l w =
           record {
+            high = omega arith;
             reaches =
                 λ n.
                 reaches-low (rowsOf t) (key t) a j (omega arith)
@@ -99,6 +101,7 @@ module _ (t : List ℕ) (a : ℕ) where
       pub placed-all : h ≤ j → Placed t a (rowsOf t)
       placed-all l =
           record {
+            high = omega arith;
             reaches = λ n. absurd (omega arith);
             ends = λ n. absurd (omega arith);
             all = λ n. all-rows (rowsOf t) (key t) a h first (λ k z o. u .passed k z (omega arith));

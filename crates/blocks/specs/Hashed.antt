@@ -72,6 +72,7 @@ pub record Scanned (t : List ℕ) (a from to r : ℕ) : Type 0 where
   pub ends : r < to → 0 < key t r → key t r ≡ suc a
 
 pub record Placed (t : List ℕ) (a r : ℕ) : Type 0 where
+  pub high : r ≤ rowsOf t
   pub reaches : r < rowsOf t → Reaches (rowsOf t) (key t) a r
   pub ends : r < rowsOf t → 0 < key t r → key t r ≡ suc a
   pub all : rowsOf t ≤ r → (i : ℕ) → i < rowsOf t → Other (key t) a i

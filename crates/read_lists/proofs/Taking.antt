@@ -137,16 +137,20 @@ pub takes-short :
     (w : List ℕ) {m room used : ℕ} (t : List ℕ) → length w ≡ m → room < used + m → Takes w room used (Refused TableTooShort) t t
 takes-short w {m} {room} {used} t e h =
     let not : leb (used + length w) room ≡ false = lt-leb (used + length w) room (omega arith) in
-    record { answer = rw not refl; table = rw not tt }
+    record { answer = rw not refl; table = rw not refl }
 
 -- ---- words of a table
 
 module _ (s : List ℕ) {first count room used : ℕ} {t₀ : List ℕ} where
   pub copies-short : room < used + count → Copies s first count room used (Refused TableTooShort) t₀ t₀
-  copies-short h = record { copied = λ l. takes-short (take count (drop first s)) t₀ (length-part s first count l) h }
+  copies-short h =
+      record {
+        copied = λ l. takes-short (take count (drop first s)) t₀ (length-part s first count l) h;
+        missing = λ _. (refl, refl);
+      }
 
   pub copies-past : length s < first + count → Copies s first count room used (Refused TableTooShort) t₀ t₀
-  copies-past h = record { copied = λ l. absurd (omega arith) }
+  copies-past h = record { copied = λ l. absurd (omega arith); missing = λ _. (refl, refl) }
 
 -- ---- words that fit
 

@@ -1,5 +1,5 @@
 -- What storing words as new rows promises: all or none (document 01, "Who can cause a refusal"). Definitions only.
-use Prim.Native.Nat.{ℕ, _+_, _*_, _≤_}
+use Prim.Native.Nat.{ℕ, _+_, _*_, _≤_, _<_}
 use mathlib.Core.Path.{_≡_}
 use mathlib.Core.Bool.{Bool, true, false}
 use mathlib.Core.List.{List}
@@ -36,19 +36,20 @@ abbrev pub taken : Bool → ℕ → ℕ → Listed
 taken true used m = At used m (used + m)
 taken false used m = Refused TableTooShort
 
--- the table then; nothing is said of a refusal
+-- the table then: all of them, or none
 abbrev pub Stored : Bool → List ℕ → ℕ → List ℕ → List ℕ → Type 0
 Stored true w used t₀ t = t ≡ sets t₀ used w
-Stored false w used t₀ t = Unit {0}
+Stored false w used t₀ t = t ≡ t₀
 
 -- the words w were to be stored behind `used` others, in a room of so many words
 pub record Takes (w : List ℕ) (room used : ℕ) (r : Listed) (t₀ t : List ℕ) : Type 0 where
   pub answer : r ≡ taken (leb (used + length w) room) used (length w)
   pub table : Stored (leb (used + length w) room) w used t₀ t
 
--- words of the table s were to be copied; nothing is said where they are not there
+-- words of the table s were to be copied; where they are not there, none is, and the answer is 1
 pub record Copies (s : List ℕ) (first count room used : ℕ) (r : Listed) (t₀ t : List ℕ) : Type 0 where
   pub copied : first + count ≤ length s → Takes (take count (drop first s)) room used r t₀ t
+  pub missing : length s < first + count → (r ≡ Refused TableTooShort) × (t ≡ t₀)
 
 -- m words of k bytes were to be stored, by the array found
 abbrev pub TakesNew : Res (List ℕ) → ℕ → ℕ → ℕ → ℕ → Listed → List ℕ → List ℕ → Type 0

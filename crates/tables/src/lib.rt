@@ -51,7 +51,8 @@ pub fn clear64(t: &mut [u64])
     }
 }
 
-// The first n bytes of the caller's buffer, as a part of it; the empty part if n is above its length.
+// The first n bytes of the caller's buffer, as a part of it; the empty part if n is above its length. Nothing is stored. The contract
+// speaks of the part alone: a slice of which a part is handed back has no exit that it could name.
 pub fn front<'a>(out: &'a mut [u8], n: usize) -> &'a mut [u8]
     ensures part { λ r. ⌜ now r ≡ frontOf n (now (out .entry)) ⌝ }
 {

@@ -83,7 +83,11 @@ same-length : tie.Need-same-length Inv-loop μ-loop
 same-length c = search needs
 
 returns-3 : tie.Need-returns-3 Inv-loop μ-loop
-returns-3 c = record { copied = λ h. storing-all (c .before .loop .inv .0) (c .loop-test .left) }
+returns-3 c =
+    record {
+      copied = λ h. storing-all (c .before .loop .inv .0) (c .loop-test .left);
+      missing = λ h. absurd (omega (arith, c .before .loop .inv .1, h));
+    }
 
 pub copy-indices-spec : {M : Type 1} → statement M
 copy-indices-spec =
