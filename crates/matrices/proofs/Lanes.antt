@@ -52,32 +52,29 @@ abbrev numbers : Pose → List Float
 numbers v =
     v .position .x ∷ v .position .y ∷ v .position .z ∷ v .rotation .x ∷ v .rotation .y ∷ v .rotation .z ∷ v .rotation .w ∷ []
 
+-- poses with the same numbers
+same-numbers :
+    {u v : Pose} → u .position .x ≡ v .position .x → u .position .y ≡ v .position .y → u .position .z ≡ v .position .z
+    → u .rotation .x ≡ v .rotation .x → u .rotation .y ≡ v .rotation .y → u .rotation .z ≡ v .rotation .z
+    → u .rotation .w ≡ v .rotation .w → u ≡ v
+same-numbers x y z a b c d = λ j. record { position = vec3 (x j) (y j) (z j); rotation = vec4 (a j) (b j) (c j) (d j) }
+
 -- a lane whose numbers are those of a pose
 lane-is :
     (s : List Float) (i : ℕ) (v : Pose)
     → ((k m : ℕ) → m < 7 → k ≡ i + 4 * m → getD s k nan ≡ getD (numbers v) m nan) → laneOf s i ≡ v
 lane-is s i v h =
-    let x = h i 0 (omega arith) (omega arith) in
-    let y = h (i + 4) 1 (omega arith) (omega arith) in
-    let z = h (i + 8) 2 (omega arith) (omega arith) in
-    let a = h (i + 12) 3 (omega arith) (omega arith) in
-    let b = h (i + 16) 4 (omega arith) (omega arith) in
-    let c = h (i + 20) 5 (omega arith) (omega arith) in
-    let d = h (i + 24) 6 (omega arith) (omega arith) in
-    λ j. record { position = vec3 (x j) (y j) (z j); rotation = vec4 (a j) (b j) (c j) (d j) }
+    same-numbers (h i 0 (omega arith) (omega arith)) (h (i + 4) 1 (omega arith) (omega arith))
+    (h (i + 8) 2 (omega arith) (omega arith)) (h (i + 12) 3 (omega arith) (omega arith))
+    (h (i + 16) 4 (omega arith) (omega arith)) (h (i + 20) 5 (omega arith) (omega arith))
+    (h (i + 24) 6 (omega arith) (omega arith))
 
 -- two lists that agree in a lane
 lane-same :
     (s t : List Float) (i : ℕ) → ((k m : ℕ) → k ≡ i + 4 * m → getD s k nan ≡ getD t k nan) → laneOf s i ≡ laneOf t i
 lane-same s t i h =
-    let x = h i 0 (omega arith) in
-    let y = h (i + 4) 1 (omega arith) in
-    let z = h (i + 8) 2 (omega arith) in
-    let a = h (i + 12) 3 (omega arith) in
-    let b = h (i + 16) 4 (omega arith) in
-    let c = h (i + 20) 5 (omega arith) in
-    let d = h (i + 24) 6 (omega arith) in
-    λ j. record { position = vec3 (x j) (y j) (z j); rotation = vec4 (a j) (b j) (c j) (d j) }
+    same-numbers (h i 0 (omega arith)) (h (i + 4) 1 (omega arith)) (h (i + 8) 2 (omega arith)) (h (i + 12) 3 (omega arith))
+    (h (i + 16) 4 (omega arith)) (h (i + 20) 5 (omega arith)) (h (i + 24) 6 (omega arith))
 
 numbers-put : (s : List Float) (i : ℕ) (v : Pose) → length s ≡ 28 → i < 4 → LanePut i v s (putFours s i (numbers v))
 numbers-put s i v size l =

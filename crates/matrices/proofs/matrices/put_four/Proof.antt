@@ -37,33 +37,48 @@ put-inverse-requires c κs =
     (s .pre .0, omega (arith, s .pre .1, s .pre .2))
 
 add-put-inverse : tie.Need-add-put-inverse
-add-put-inverse c = omega (arith, c .before .before .before .before .before .before .before .before .before .before .before .pre .1, c .before .before .before .before .before .before .before .before .before .before .before .fits .n)
+add-put-inverse c =
+    let f = c .before .before .before .before in
+    let s = f .before .before .before .before .before .before .before in
+    omega (arith, s .pre .1, s .fits .n)
 
 put-inverse-requires-2 : tie.Need-put-inverse-requires-2
 put-inverse-requires-2 c κs =
-    let s = c .before .before .before .before .before .before .before .before .before .before .before .before in
-    (s .pre .0, omega (arith, s .pre .1, s .pre .2, c .before .before .before .put-inverse .kept .1 .1 .1 .1 .1 .0))
+    let w = c .before .before .before in
+    let s = w .before .before .before .before .before .before .before .before .before in
+    (s .pre .0, omega (arith, s .pre .1, s .pre .2, w .put-inverse .kept .1 .1 .1 .1 .1 .0))
 
 add-put-inverse-2 : tie.Need-add-put-inverse-2
-add-put-inverse-2 c = omega (arith, c .before .before .before .before .before .before .before .before .before .before .before .before .before .before .before .pre .1, c .before .before .before .before .before .before .before .before .before .before .before .before .before .before .before .fits .n)
+add-put-inverse-2 c =
+    let w = c .before .before .before .before in
+    let f = w .before .before .before .before in
+    let s = f .before .before .before .before .before .before .before in
+    omega (arith, s .pre .1, s .fits .n)
 
 put-inverse-requires-3 : tie.Need-put-inverse-requires-3
 put-inverse-requires-3 c κs =
-    let s = c .before .before .before .before .before .before .before .before .before .before .before .before .before .before .before .before in
-    let a = c .before .before .before .put-inverse2 .kept .1 .1 .1 .1 .1 .0 in
-    let b = c .before .before .before .before .before .before .before .put-inverse .kept .1 .1 .1 .1 .1 .0 in
-    (s .pre .0, omega (arith, s .pre .1, s .pre .2, a, b))
+    let x = c .before .before .before in
+    let w = x .before .before .before .before in
+    let s = w .before .before .before .before .before .before .before .before .before in
+    (s .pre .0, omega (arith, s .pre .1, s .pre .2, x .put-inverse2 .kept .1 .1 .1 .1 .1 .0, w .put-inverse .kept .1 .1 .1 .1 .1 .0))
 
 add-put-inverse-3 : tie.Need-add-put-inverse-3
-add-put-inverse-3 c = omega (arith, c .before .before .before .before .before .before .before .before .before .before .before .before .before .before .before .before .before .before .before .pre .1, c .before .before .before .before .before .before .before .before .before .before .before .before .before .before .before .before .before .before .before .fits .n)
+add-put-inverse-3 c =
+    let x = c .before .before .before .before in
+    let w = x .before .before .before .before in
+    let f = w .before .before .before .before in
+    let s = f .before .before .before .before .before .before .before in
+    omega (arith, s .pre .1, s .fits .n)
 
 put-inverse-requires-4 : tie.Need-put-inverse-requires-4
 put-inverse-requires-4 c κs =
-    let s = c .before .before .before .before .before .before .before .before .before .before .before .before .before .before .before .before .before .before .before .before in
-    let a = c .before .before .before .put-inverse3 .kept .1 .1 .1 .1 .1 .0 in
-    let b = c .before .before .before .before .before .before .before .put-inverse2 .kept .1 .1 .1 .1 .1 .0 in
-    let d = c .before .before .before .before .before .before .before .before .before .before .before .put-inverse .kept .1 .1 .1 .1 .1 .0 in
-    (s .pre .0, omega (arith, s .pre .1, s .pre .2, a, b, d))
+    let y = c .before .before .before in
+    let x = y .before .before .before .before in
+    let w = x .before .before .before .before in
+    let s = w .before .before .before .before .before .before .before .before .before in
+    let b = x .put-inverse2 .kept .1 .1 .1 .1 .1 .0 in
+    let a = w .put-inverse .kept .1 .1 .1 .1 .1 .0 in
+    (s .pre .0, omega (arith, s .pre .1, s .pre .2, y .put-inverse3 .kept .1 .1 .1 .1 .1 .0, b, a))
 
 same-length : tie.Need-same-length
 same-length c = search needs
