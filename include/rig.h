@@ -1,6 +1,6 @@
 /* The skeleton half of a rig exporter, for C and C++: reads, derives, writes, looks up in and checks the skeleton sections
  * that the game loads. Link librig.a (`rt staticlib rig`; x86-64 Linux) and the C library. What a call answers and leaves is proved
- * of the library; that these declarations fit it is not proved, but compared and run by compare/c.
+ * of the library; that these declarations fit it is not proved, but compared by bindings/exports and run by compare/c.
  *
  * What the caller must see to, since C cannot:
  * - A table or buffer is lent as a pointer and, behind it, the number of its items. The pointer is aligned for its items, valid

@@ -23,15 +23,13 @@ fn one_damaged(tally: &mut Tally, seed: u64) -> Result<(), String> {
     asked.map_err(|e| format!("damaged section, seed {seed}, {}: {e}", case.changes.join(" ")))
 }
 
-/// Every truncation of either half of good sections, one section for each of `sections` seeds.
-pub fn truncations(seed: u64, sections: u64) -> Result<Tally, String> {
-    let mut tally = Tally::default();
-    for seed in seed..seed + sections {
+/// Every truncation of either half of good sections, one section for each of `sections` seeds, shared among `threads`.
+pub fn truncations(seed: u64, sections: u64, threads: u64) -> Result<Tally, String> {
+    let tally = share(seed, sections, threads, |tally, seed| {
         let (_, whole) = good(&mut Rng::new(seed));
-        for (i, cut) in whole.truncations().enumerate() {
-            ask(&mut tally, &cut, i as u32 % 48).map_err(|e| format!("truncation {i}, seed {seed}: {e}"))?;
-        }
-    }
+        let mut cuts = whole.truncations().enumerate();
+        cuts.try_for_each(|(i, cut)| ask(tally, &cut, i as u32 % 48).map_err(|e| format!("truncation {i}, seed {seed}: {e}")))
+    })?;
     tally.require("read", &["11", "read"])?;
     Ok(tally)
 }

@@ -60,21 +60,21 @@ fn run(o: &Options) -> Result<(), String> {
     if o.valgrind || o.only.is_some() {
         return ours(o, failures);
     }
-    stage("self-test", "faults found", || self_test::run(failures))?;
+    stage("self-test", "faults found", || self_test::run(failures, o.threads))?;
     if o.oracle_only {
         println!("our library: left out (--oracle-only)");
     } else {
         ours(o, failures)?;
     }
-    stage("readings", if link::LINKED { "shown by both" } else { "shown by the Rust" }, readings::run)?;
+    stage("readings", if link::LINKED { "shown by both" } else { "shown by the Rust" }, || readings::run(o.threads))?;
     println!("the Rust alone:");
     stage("stored sample", "cases as the Rust has them", || store::check(Path::new(STORED)))?;
-    stage("deriving", "rigs", || rigs::derive(o.seed, 20_000 * times))?;
-    stage("writing and reading back", "rigs", || rigs::write_and_read_back(o.seed, 20_000 * times))?;
-    stage("sections scattered over both halves", "rigs", || rigs::scattered(o.seed, 20_000 * times))?;
+    stage("deriving", "rigs", || rigs::derive(o.seed, 20_000 * times, o.threads))?;
+    stage("writing and reading back", "rigs", || rigs::write_and_read_back(o.seed, 20_000 * times, o.threads))?;
+    stage("sections scattered over both halves", "rigs", || rigs::scattered(o.seed, 20_000 * times, o.threads))?;
     stage("joints", "lists", || rigs::joints(o.seed, 500 * times))?;
     stage("hash", "names", || rigs::hash(o.seed, 100_000 * times))?;
-    stage("truncations", "", || damaged::truncations(o.seed, 40 * times).map(|t| format!("\n{t}")))?;
+    stage("truncations", "", || damaged::truncations(o.seed, 40 * times, o.threads).map(|t| format!("\n{t}")))?;
     stage("damaged sections", "", || damaged::run(o.seed, o.damaged(), o.threads).map(|t| format!("\n{t}")))?;
     println!("compare: passed");
     Ok(())
@@ -172,7 +172,7 @@ fn compared<L: ?Sized, T: Display>(
         Some(group) => stage(name, unit, || run(group)),
         None if o.required => Err(format!("{name}: {missing}")),
         None => {
-            println!("{name}: not run: {missing}");
+            println!("not run: the comparison of {name}: {missing}");
             Ok(())
         }
     }

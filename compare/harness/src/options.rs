@@ -68,7 +68,8 @@ impl Options {
             return Err(format!("with --only, --count is for {}", COUNTED.join(", ")));
         }
         if o.threads == 0 {
-            o.threads = if o.long { std::thread::available_parallelism().map_or(1, |n| n.get() as u64) } else { 1 };
+            // valgrind runs one thread at a time
+            o.threads = if o.valgrind { 1 } else { std::thread::available_parallelism().map_or(1, |n| n.get() as u64) };
         }
         Ok(o)
     }

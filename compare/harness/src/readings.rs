@@ -14,6 +14,7 @@ mod section;
 mod trial;
 mod writing;
 
+use crate::share::each;
 use std::panic::catch_unwind;
 use std::time::Instant;
 
@@ -67,13 +68,15 @@ readings! {
     }
 }
 
-/// Runs every reading and prints its name; the number of readings, or the names that failed.
-pub fn run() -> Result<usize, String> {
-    let mut failed = Vec::new();
-    for (name, shown) in READINGS {
+/// Runs every reading, shared among `threads`, and prints its name; the number of readings, or the names that failed.
+pub fn run(threads: u64) -> Result<usize, String> {
+    let given = each(READINGS, threads, |(_, shown)| {
         let start = Instant::now();
-        let held = catch_unwind(shown).is_ok();
-        println!("  reading {name}: {} ({} ms)", if held { "shown" } else { "FAILED" }, start.elapsed().as_millis());
+        Ok::<_, String>((catch_unwind(shown).is_ok(), start.elapsed().as_millis()))
+    })?;
+    let mut failed = Vec::new();
+    for ((name, _), (held, time)) in READINGS.iter().zip(given) {
+        println!("  reading {name}: {} ({time} ms)", if held { "shown" } else { "FAILED" });
         if !held {
             failed.push(*name);
         }

@@ -1,6 +1,7 @@
 //! Rigs: deriving against 01's definitions, writing and reading back, joints and names.
 
 use crate::model;
+use crate::share::share;
 use cases::limits::{rotation_limit, translation_limit};
 use cases::rigs::{rig, rig_of};
 use cases::{good, Rng, Section};
@@ -10,10 +11,9 @@ use oracle::{
 };
 
 /// Chains and children of random rigs equal the definitions; column 4 is as 01 says.
-pub fn derive(seed: u64, rigs: u64) -> Result<u64, String> {
-    for seed in seed..seed + rigs {
-        derive_one(&rig(&mut Rng::new(seed))).map_err(|e| format!("deriving, seed {seed}: {e}"))?;
-    }
+pub fn derive(seed: u64, rigs: u64, threads: u64) -> Result<u64, String> {
+    let random = |seed| derive_one(&rig(&mut Rng::new(seed))).map_err(|e| format!("deriving, seed {seed}: {e}"));
+    share(seed, rigs, threads, |_, seed| random(seed))?;
     // duplicates: the published child list takes memory with the square of the count
     derive_one(&rig_of(&mut Rng::new(seed), 1_500)).map_err(|e| format!("deriving 1,500 bones, seed {seed}: {e}"))?;
     for n in [65_534, 65_535] {
@@ -63,8 +63,8 @@ fn shallow(rng: &mut Rng, n: usize) -> Vec<Bone> {
 }
 
 /// What is written is accepted and reads back bit for bit, whatever the graphics half holds.
-pub fn write_and_read_back(seed: u64, rigs: u64) -> Result<u64, String> {
-    for seed in seed..seed + rigs {
+pub fn write_and_read_back(seed: u64, rigs: u64, threads: u64) -> Result<u64, String> {
+    share(seed, rigs, threads, |_, seed| {
         let mut rng = Rng::new(seed);
         let bones = rig(&mut rng);
         let free = std::array::from_fn(|_| rng.next() as u32);
@@ -78,13 +78,14 @@ pub fn write_and_read_back(seed: u64, rigs: u64) -> Result<u64, String> {
         if r.free != free || r.bones.unwrap_or_default() != bones {
             return Err(format!("a written section reads back otherwise, seed {seed}"));
         }
-    }
+        Ok(())
+    })?;
     Ok(rigs)
 }
 
 /// Good sections scattered over both halves are accepted and read back the same bones.
-pub fn scattered(seed: u64, rigs: u64) -> Result<u64, String> {
-    for seed in seed..seed + rigs {
+pub fn scattered(seed: u64, rigs: u64, threads: u64) -> Result<u64, String> {
+    share(seed, rigs, threads, |_, seed| {
         let (bones, Section { system, graphics, root }) = good(&mut Rng::new(seed));
         let Answer::Read(r) = read(&system, &graphics, root) else {
             return Err(format!("a good section does not read, seed {seed}"));
@@ -92,7 +93,8 @@ pub fn scattered(seed: u64, rigs: u64) -> Result<u64, String> {
         if r.bones.as_deref().unwrap_or(&[]) != bones || oracle::check_reading(&r) != Verdict::Accepted(bones.len()) {
             return Err(format!("a good section is not accepted, seed {seed}"));
         }
-    }
+        Ok(())
+    })?;
     Ok(rigs)
 }
 

@@ -13,26 +13,27 @@ mod skeletons;
 
 use crate::difference::Difference;
 use crate::extent::Extent::Test;
+use crate::share::each;
 use crate::{derived, hash, lent, mass};
 use fields::{Fault, Faulty};
 use std::path::Path;
 
-/// Runs every fault; an error where one is not found. Gives the number of faults found.
-pub fn run(folder: &Path) -> Result<usize, String> {
+/// Runs every fault, shared among `threads`; an error where one is not found. Gives the number of faults found.
+pub fn run(folder: &Path, threads: u64) -> Result<usize, String> {
     let folder = &folder.join("self_test");
     if !lent::changes_are_noticed() {
         return Err("self-test: a touched guard was not found".into());
     }
     Ok(1 + single_fields(folder)?
         + cursors(folder)?
-        + deriving(folder)?
+        + deriving(folder, threads)?
         + hashing(folder)?
         + setting(folder)?
-        + limits(folder)?
-        + sections(folder)?
-        + checked(folder)?
-        + masses(folder)?
-        + printed(folder)?)
+        + limits(folder, threads)?
+        + sections(folder, threads)?
+        + checked(folder, threads)?
+        + masses(folder, threads)?
+        + printed(folder, threads)?)
 }
 
 fn single_fields(folder: &Path) -> Result<usize, String> {
@@ -57,16 +58,17 @@ fn cursors(folder: &Path) -> Result<usize, String> {
     Ok(cursor::FAULTS.len())
 }
 
-fn deriving(folder: &Path) -> Result<usize, String> {
-    none(derived::run(&derive::Faulty(None), folder, 1, Test, 1))?;
-    for fault in derive::FAULTS {
+fn deriving(folder: &Path, threads: u64) -> Result<usize, String> {
+    none(derived::run(&derive::Faulty(None), folder, 1, Test, threads))?;
+    let found = each(&derive::FAULTS, threads, |&fault| {
         let d = stored(derived::run(&derive::Faulty(Some(fault)), folder, 1, Test, 1), &format!("{fault:?}"))?;
         // each fault shows in at most 17 bones
         if bones(&d) > 17 {
             return Err(format!("self-test: {fault:?} was shrunk to {} bones only", bones(&d)));
         }
-    }
-    Ok(derive::FAULTS.len())
+        Ok(())
+    })?;
+    Ok(found.len())
 }
 
 fn hashing(folder: &Path) -> Result<usize, String> {
@@ -88,43 +90,45 @@ fn setting(folder: &Path) -> Result<usize, String> {
     Ok(setters::FAULTS.len())
 }
 
-fn limits(folder: &Path) -> Result<usize, String> {
-    none(crate::joints::run(&joints::Faulty(None), folder, 1, Test, 1))?;
-    for fault in joints::FAULTS {
-        stored(crate::joints::run(&joints::Faulty(Some(fault)), folder, 1, Test, 1), &format!("{fault:?}"))?;
-    }
-    Ok(joints::FAULTS.len())
+fn limits(folder: &Path, threads: u64) -> Result<usize, String> {
+    none(crate::joints::run(&joints::Faulty(None), folder, 1, Test, threads))?;
+    let found = each(&joints::FAULTS, threads, |&fault| {
+        stored(crate::joints::run(&joints::Faulty(Some(fault)), folder, 1, Test, 1), &format!("{fault:?}"))
+    })?;
+    Ok(found.len())
 }
 
-fn sections(folder: &Path) -> Result<usize, String> {
-    none(crate::skeletons::run(&skeletons::Faulty(None), folder, 1, Test, 1))?;
-    for fault in skeletons::faults() {
+fn sections(folder: &Path, threads: u64) -> Result<usize, String> {
+    none(crate::skeletons::run(&skeletons::Faulty(None), folder, 1, Test, threads))?;
+    let found = each(&skeletons::faults(), threads, |&fault| {
         let d = stored(crate::skeletons::run(&skeletons::Faulty(Some(fault)), folder, 1, Test, 1), &format!("{fault:?}"))?;
         // each fault of reading shows in a skeleton and few more bytes, each fault of writing in at most two bones
         if matches!(fault, skeletons::Fault::Read(_)) && system(&d) > 400 || bones(&d) > 2 {
             return Err(format!("self-test: {fault:?} was not shrunk:\n{}", d.text));
         }
-    }
+        Ok(())
+    })?;
     if !skeletons::three_is_noticed() {
         return Err("self-test: 65,536 child entries taken were not found".into());
     }
-    Ok(skeletons::faults().count() + 1)
+    Ok(found.len() + 1)
 }
 
-fn checked(folder: &Path) -> Result<usize, String> {
-    none(crate::checks::run(&checks::Faulty(None), folder, 1, Test, 1))?;
-    for fault in checks::FAULTS {
+fn checked(folder: &Path, threads: u64) -> Result<usize, String> {
+    none(crate::checks::run(&checks::Faulty(None), folder, 1, Test, threads))?;
+    let found = each(&checks::FAULTS, threads, |&fault| {
         let d = stored(crate::checks::run(&checks::Faulty(Some(fault)), folder, 1, Test, 1), &format!("{fault:?}"))?;
         // each fault shows in few bones and their lists
         if system(&d) > 1_600 {
             return Err(format!("self-test: {fault:?} was not shrunk:\n{}", d.text));
         }
-    }
-    Ok(checks::FAULTS.len())
+        Ok(())
+    })?;
+    Ok(found.len())
 }
 
 /// The same faults in the stages of many calls, and each place of what these lend touched behind the call.
-fn masses(folder: &Path) -> Result<usize, String> {
+fn masses(folder: &Path, threads: u64) -> Result<usize, String> {
     const CALLS: u64 = 20_000;
     let touches = [
         (mass::reads::touches_are_noticed(&skeletons::Faulty(None)), "reads"),
@@ -142,33 +146,30 @@ fn masses(folder: &Path) -> Result<usize, String> {
         }
         Ok(())
     };
-    let reads = |fault| mass::reads::run(&skeletons::Faulty(fault), folder, 1, CALLS, 1);
-    let verdicts = |fault| mass::checks::run(&checks::Faulty(fault), folder, 1, CALLS, 1);
-    let writes = |fault| mass::writes::run(&skeletons::Faulty(fault), folder, 1, CALLS, 1);
-    none(reads(None))?;
-    none(verdicts(None))?;
-    none(writes(None))?;
-    for fault in skeletons::faults() {
-        let run = if matches!(fault, skeletons::Fault::Read(_)) { reads(Some(fault)) } else { writes(Some(fault)) };
-        small(run, &format!("{fault:?} of many"))?;
-    }
-    for fault in checks::OF_CHECK {
-        small(verdicts(Some(fault)), &format!("{fault:?} of many"))?;
-    }
+    let reads = |fault, threads| mass::reads::run(&skeletons::Faulty(fault), folder, 1, CALLS, threads);
+    let verdicts = |fault, threads| mass::checks::run(&checks::Faulty(fault), folder, 1, CALLS, threads);
+    let writes = |fault, threads| mass::writes::run(&skeletons::Faulty(fault), folder, 1, CALLS, threads);
+    none(reads(None, threads))?;
+    none(verdicts(None, threads))?;
+    none(writes(None, threads))?;
+    let of_skeletons = each(&skeletons::faults(), threads, |&fault| {
+        let run = if matches!(fault, skeletons::Fault::Read(_)) { reads(Some(fault), 1) } else { writes(Some(fault), 1) };
+        small(run, &format!("{fault:?} of many"))
+    })?;
+    let of_checks = each(&checks::OF_CHECK, threads, |&fault| small(verdicts(Some(fault), 1), &format!("{fault:?} of many")))?;
     // a fault of reading in the round trip
-    for fault in skeletons::ROUND_TRIP {
-        small(writes(Some(fault)), &format!("{fault:?} of the round trip"))?;
-    }
-    Ok(touches.len() + skeletons::faults().count() + checks::OF_CHECK.len() + skeletons::ROUND_TRIP.len())
+    let round_trip =
+        each(&skeletons::ROUND_TRIP, threads, |&fault| small(writes(Some(fault), 1), &format!("{fault:?} of the round trip")))?;
+    Ok(touches.len() + of_skeletons.len() + of_checks.len() + round_trip.len())
 }
 
-fn printed(folder: &Path) -> Result<usize, String> {
+fn printed(folder: &Path, threads: u64) -> Result<usize, String> {
     let right = |bytes: &[u8]| crate::program::rust(&crate::program::Bytes(bytes.to_vec()));
-    none(crate::program::run(&right, folder, 1, Test, 1))?;
-    for (name, fault) in program::FAULTS {
-        stored(crate::program::run(&|bytes| fault(bytes, right(bytes)), folder, 1, Test, 1), name)?;
-    }
-    Ok(program::FAULTS.len())
+    none(crate::program::run(&right, folder, 1, Test, threads))?;
+    let found = each(&program::FAULTS, threads, |(name, fault)| {
+        stored(crate::program::run(&|bytes| fault(bytes, right(bytes)), folder, 1, Test, 1), name)
+    })?;
+    Ok(found.len())
 }
 
 /// The bytes of the smallest input's system half.

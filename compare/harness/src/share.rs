@@ -1,7 +1,8 @@
-//! Seeds shared among threads.
+//! Seeds and other items shared among threads. What is given is the same however many there are.
 
 use crate::tally::Tally;
 use std::panic::resume_unwind;
+use std::sync::atomic::{AtomicUsize, Ordering};
 use std::thread;
 
 /// Runs `one` on each of `count` seeds from `seed` on, shared among `threads`, and joins the tallies.
@@ -16,9 +17,38 @@ pub fn share<E: Send>(
         (first..count).step_by(threads as usize).try_for_each(|i| one(&mut tally, seed + i))?;
         Ok(tally)
     })?;
+    Ok(joined(&parts))
+}
+
+/// The same on each of the items.
+pub fn share_items<I: Sync, E: Send>(
+    items: &[I],
+    threads: u64,
+    one: impl Fn(&mut Tally, &I) -> Result<(), E> + Sync,
+) -> Result<Tally, E> {
+    let parts = each(items, threads, |item| {
+        let mut tally = Tally::default();
+        one(&mut tally, item).map(|()| tally)
+    })?;
+    Ok(joined(&parts))
+}
+
+fn joined(parts: &[Tally]) -> Tally {
     let mut all = Tally::default();
     parts.iter().for_each(|part| all.merge(part));
-    Ok(all)
+    all
+}
+
+/// What `one` gives for each item, in their order. A thread takes the next one when it is done with the last.
+pub fn each<I: Sync, W: Send, E: Send>(items: &[I], threads: u64, one: impl Fn(&I) -> Result<W, E> + Sync) -> Result<Vec<W>, E> {
+    let next = AtomicUsize::new(0);
+    let parts = workers(threads, |_| {
+        let taken = std::iter::repeat_with(|| next.fetch_add(1, Ordering::Relaxed)).take_while(|&i| i < items.len());
+        taken.map(|i| Ok((i, one(&items[i])?))).collect::<Result<Vec<_>, E>>()
+    })?;
+    let mut given: Vec<(usize, W)> = parts.into_iter().flatten().collect();
+    given.sort_by_key(|&(i, _)| i);
+    Ok(given.into_iter().map(|(_, given)| given).collect())
 }
 
 /// What each of so many threads gives, by its number.

@@ -53,7 +53,7 @@ use denote.Triple.Entry.{Args, Vals, onEntry}
 use denote.Triple.Spec.{Spec, Meets, tripleOf}
 use denote.Triple.Table.{entered, cited}
 use denote.Triple.Walked.{says, Stays, stay-ref, walkOf, onExit, goes-ref, Walks, ends-at, walked, walk-meets}
-use Rattle.blocks.specs.Cursor.{after, readBy, taken}
+use Rattle.blocks.specs.Cursor.{afterRead, readBy, taken}
 use Rattle.blocks.specs.declared.cursor.Cursor.{Cursor}
 use Rattle.blocks.specs.declared.cursor.After.{After}
 use Rattle.blocks.proofs.Routines.{met-by}
@@ -207,9 +207,9 @@ module _ (R : RattleType) (k : ℕ) (f : List ℕ → ℕ → R .Denot) where
         move ! (1 ∷ 0 ∷ []) $ fjoin ! $ move ! (1 ∷ 0 ∷ []) $ join ! $ frame ! $ done !
 
     take-said : (r : After) → ent 𝓤 (ensured 𝓤 H A take.ended (take.clauses 𝓤 H A at-mem run) (κ′, tt)
-        (h .«data», (h .pos, (k, (h .overrun, tt)))) tt r) (fact 𝓤 (r ≡ after k (now (h .«data»)) (h .pos) (h .overrun)))
+        (h .«data», (h .pos, (k, (h .overrun, tt)))) tt r) (fact 𝓤 (r ≡ afterRead k (now (h .«data»)) (h .pos) (h .overrun)))
     take-said r = exE 𝓤 _ (λ ws. snd∗ 𝓤 (sem 𝓤 H A (lasts take.ended (κ′, tt) (h .«data», (h .pos, (k, (h .overrun, tt)))) ws))
-        (fact 𝓤 (r ≡ after k (now (h .«data»)) (h .pos) (h .overrun))))
+        (fact 𝓤 (r ≡ afterRead k (now (h .«data»)) (h .pos) (h .overrun))))
 
     -- the call of the function that computes what is read
     abbrev to-value : Value 𝓤 H A at-mem run .Ghost
@@ -229,7 +229,7 @@ module _ (R : RattleType) (k : ℕ) (f : List ℕ → ℕ → R .Denot) where
     both φ ψ = fact-use 𝓤 (φ × ψ) (id⊢ 𝓤 _) (λ p. via 𝓤 _ (emp∗ 𝓤 _)
         (mono∗ 𝓤 {P = emp 𝓤} {Q = fact 𝓤 (φ × ψ)} (factI 𝓤 φ _ (p .0)) (factI 𝓤 ψ _ (p .1))))
 
-    exits : (r : R .Denot) (u : Val) (n : After) → r ≡ readBy f h → n ≡ after k (now (h .«data»)) (h .pos) (h .overrun)
+    exits : (r : R .Denot) (u : Val) (n : After) → r ≡ readBy f h → n ≡ afterRead k (now (h .«data»)) (h .pos) (h .overrun)
         → ent 𝓤 (⋆ 𝓤 H A (‵ (R .own r (u ∷ [])) ∷ (‵ (flft κ′ q′) ⊛ ‵ ftrue) ∷ ‵ (fobs γ (B .coded .code (at-after h n))) ∷ ‵
         (fbor κ (BorrowBody (mem B) b o γ)) ∷ ‵ (flft κ q) ∷ [])) (Post u)
     exits r u n e e′ =
@@ -275,8 +275,8 @@ module _ (R : RattleType) (k : ℕ) (f : List ℕ → ℕ → R .Denot) where
           use1 W (later (some (λ (n : After). ((‵ (flft κ′ q′) ⊛ ‵ ftrue) ⊛ ‵ (N.the-row .own n (u ∷ []))) ⊛ raw
           (ensured 𝓤 H A take.ended (take.clauses 𝓤 H A at-mem run) (κ′, tt) (h .«data», (h .pos, (k, (h .overrun, tt)))) tt n)))) (id⊢ 𝓤 _)
           $ await ! tt $ pick ! (λ n.
-          split ! $ move ! (1 ∷ []) $ use1 W (raw (fact 𝓤 (n ≡ after k (now (h .«data»)) (h .pos) (h .overrun)))) (take-said n) $
-          heard ! (n ≡ after k (now (h .«data»)) (h .pos) (h .overrun)) (λ e′. split ! $ move ! (1 ∷ []) $
+          split ! $ move ! (1 ∷ []) $ use1 W (raw (fact 𝓤 (n ≡ afterRead k (now (h .«data»)) (h .pos) (h .overrun)))) (take-said n) $
+          heard ! (n ≡ afterRead k (now (h .«data»)) (h .pos) (h .overrun)) (λ e′. split ! $ move ! (1 ∷ []) $
           peeks ! N.the-row (Is N.the-row) (shows 𝓤 H A N.the-row) n (u ∷ []) (λ is. drop ! $
           -- [the inner token; the slice; what the cursor owns; its cell; the open borrow; obs; auth; true; _5; …; _4; …; _3; …; _2; …; _1;
           -- …; room for _0; …]

@@ -6,7 +6,7 @@ use Prim.Native.Nat.{ℕ, zero, suc, _+_, _*_, _<_, _≤_}
 use native.Mathlib.Nat.{eq-or-lt-of-le}
 use native.Mathlib.Omega.{arith}
 use lib.ListN.{getD}
-use Rattle.blocks.specs.Hashed.{rowsOf, keyOf, key, homeOf, Other, Scanned, Placed}
+use Rattle.blocks.specs.Hashed.{poolRows, keyOf, key, homeOf, Other, Scanned, PlacedAt}
 use Rattle.blocks.proofs.Search.{reaches-high, reaches-low, all-rows}
 
 -- ---- a row by its words
@@ -69,40 +69,40 @@ module _ (t : List ℕ) (a from to : ℕ) where
 -- ---- the two scans of `place`
 
 module _ (t : List ℕ) (a : ℕ) where
-  module _ (h i : ℕ) (is : h ≡ homeOf a (rowsOf t)) (s : Scanned t a h (rowsOf t) i) where
-    pub placed-high : i < rowsOf t → Placed t a i
+  module _ (h i : ℕ) (is : h ≡ homeOf a (poolRows t)) (s : Scanned t a h (poolRows t) i) where
+    pub placed-high : i < poolRows t → PlacedAt t a i
     placed-high l =
         record {
           high = omega arith;
           reaches =
               λ l.
-              reaches-high (rowsOf t) (key t) a i l (omega (arith, s .low))
+              reaches-high (poolRows t) (key t) a i l (omega (arith, s .low))
               (subst (λ (x : ℕ). (k : ℕ) → x ≤ k → k < i → Other (key t) a k) is (s .passed));
           ends = s .ends;
           all = λ m. absurd (omega arith);
         }
 
-    module _ (m : rowsOf t ≤ i) (j : ℕ) (u : Scanned t a 0 h j) where
-      first : (k : ℕ) → h ≤ k → k < rowsOf t → Other (key t) a k
+    module _ (m : poolRows t ≤ i) (j : ℕ) (u : Scanned t a 0 h j) where
+      first : (k : ℕ) → h ≤ k → k < poolRows t → Other (key t) a k
       first k l n = s .passed k l (omega arith)
 
-      pub placed-low : j < h → h < rowsOf t → Placed t a j
+      pub placed-low : j < h → h < poolRows t → PlacedAt t a j
       placed-low l w =
           record {
             high = omega arith;
             reaches =
                 λ n.
-                reaches-low (rowsOf t) (key t) a j (omega arith)
-                (subst (λ (x : ℕ). (k : ℕ) → x ≤ k → k < rowsOf t → Other (key t) a k) is first) (u .passed);
+                reaches-low (poolRows t) (key t) a j (omega arith)
+                (subst (λ (x : ℕ). (k : ℕ) → x ≤ k → k < poolRows t → Other (key t) a k) is first) (u .passed);
             ends = λ n. u .ends l;
             all = λ n. absurd (omega arith);
           }
 
-      pub placed-all : h ≤ j → Placed t a (rowsOf t)
+      pub placed-all : h ≤ j → PlacedAt t a (poolRows t)
       placed-all l =
           record {
             high = omega arith;
             reaches = λ n. absurd (omega arith);
             ends = λ n. absurd (omega arith);
-            all = λ n. all-rows (rowsOf t) (key t) a h first (λ k z o. u .passed k z (omega arith));
+            all = λ n. all-rows (poolRows t) (key t) a h first (λ k z o. u .passed k z (omega arith));
           }

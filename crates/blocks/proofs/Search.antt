@@ -13,7 +13,7 @@ use borrow.Author.Tests.{eq-eqb, ne-eqb, le-leb, lt-leb}
 use lib.Dec.{eqb}
 use lib.ListN.{length}
 use Rattle.format.specs.Tables.{Pooled, find}
-use Rattle.blocks.specs.Hashed.{used, homeOf, rank, Other, Reaches, Holds}
+use Rattle.blocks.specs.Hashed.{used, homeOf, rank, Other, Reaches, HashHolds}
 
 -- ---- cases on numbers
 
@@ -136,7 +136,7 @@ used-more key key′ r (suc n) l z p f = ⊎-elim last (λ e. earlier e (used-mo
 
 -- ---- what the end of a search tells
 
-module _ (n : ℕ) (key : ℕ → ℕ) (val : ℕ → Pooled) (q : List Pooled) (H : Holds n key val q) where
+module _ (n : ℕ) (key : ℕ → ℕ) (val : ℕ → Pooled) (q : List Pooled) (H : HashHolds n key val q) where
   -- an address stands at most where its search ends
   only : (a r : ℕ) → r < n → Reaches n key a r → (0 < key r → key r ≡ suc a) → (j : ℕ) → j < n → key j ≡ suc a → j ≡ r
   only a r l c e j m k =
@@ -238,5 +238,5 @@ module _ (n : ℕ) (key : ℕ → ℕ) (val : ℕ → Pooled) (q : List Pooled) 
               (λ z. let f : key r ≡ 0 = omega arith in new f ∙ ap suc (H .size) ∙ sym (used-new f))
               (le-or-lt 1 (key r))
 
-          pub stored-holds : Holds n key′ val′ e
+          pub stored-holds : HashHolds n key′ val′ e
           stored-holds = record { reach = stored-reach; here = stored-here; nowhere = stored-nowhere; size = stored-size }

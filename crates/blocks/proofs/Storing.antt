@@ -15,7 +15,7 @@ use Rattle.blocks.specs.Kinds.{kindCode, kindFrom}
 use Rattle.blocks.specs.declared.pool.Found.{Found}
 use Rattle.blocks.specs.declared.pool.Stored.{Stored}
 use Rattle.blocks.specs.declared.pool.Stored.the-variants.{Done, Full}
-use Rattle.blocks.specs.Hashed.{rowsOf, key, val, Holds, Represents, Placed}
+use Rattle.blocks.specs.Hashed.{poolRows, key, val, HashHolds, Represents, PlacedAt}
 use Rattle.blocks.specs.Pool.{meantFound, meantStored, enter, Finds, Left, Entered, Stores}
 use Rattle.blocks.proofs.Codes.{kindCode-pos, kindFrom-kindCode}
 use Rattle.blocks.proofs.Entering.{find-replace-same, find-replace-other, length-replace}
@@ -71,7 +71,7 @@ module _ (t : List ℕ) (i a k f c : ℕ) where
     unfolding val
     val-setRow-other = simp (address-other, code-other, first-other, count-other)
 
-  module _ (l : i < rowsOf t) where
+  module _ (l : i < poolRows t) where
     address-same : getD (setRow t i a k f c) (4 * i) 0 ≡ a
     address-same =
         getD-set-other t₃ (4 * i + 3) (4 * i) c 0 (omega arith) ∙ getD-set-other t₂ (4 * i + 2) (4 * i) f 0 (omega arith)
@@ -100,19 +100,19 @@ module _ (t : List ℕ) (i a k f c : ℕ) where
 
 -- ---- put
 
-module _ (t : List ℕ) (p : Pooled) (i : ℕ) (g : Placed t (p .address) i) where
-  pub stores-full : rowsOf t ≤ i → Stores p Full t t
+module _ (t : List ℕ) (p : Pooled) (i : ℕ) (g : PlacedAt t (p .address) i) where
+  pub stores-full : poolRows t ≤ i → Stores p Full t t
   stores-full l =
       record {
         entered =
             λ {n} {q} h.
             let held = holds-rows h in
-            let absent : find (p .address) q ≡ none = all-absent (rowsOf t) (key t) (val t) q held (p .address) (g .all l) in
-            let full : length q ≡ rowsOf t = all-full (rowsOf t) (key t) (val t) q held (p .address) (g .all l) in
+            let absent : find (p .address) q ≡ none = all-absent (poolRows t) (key t) (val t) q held (p .address) (g .all l) in
+            let full : length q ≡ poolRows t = all-full (poolRows t) (key t) (val t) q held (p .address) (g .all l) in
             record { after = q; answer = simp (absent, le-ltb (length q) n (omega (arith, h .size))); table = refl };
       }
 
-  module _ (l : i < rowsOf t) where
+  module _ (l : i < poolRows t) where
     -- the table with the row stored
     abbrev t′ : List ℕ
     t′ = setRow t i (p .address) (kindCode (p .kind)) (p .stored .first) (p .stored .count)
@@ -138,8 +138,8 @@ module _ (t : List ℕ) (p : Pooled) (i : ℕ) (g : Placed t (p .address) i) whe
                 ap (λ (m : ℕ). m / 4) (length-setRow t i (p .address) (kindCode (p .kind)) (p .stored .first) (p .stored .count))
                 ∙ h .size;
             holds =
-                subst (λ (m : ℕ). Holds m (key t′) (val t′) e) (h .size)
-                (stored-holds (rowsOf t) (key t) (val t) q (holds-rows h) p i (key t′) (val t′) l (g .reaches l) (g .ends l)
+                subst (λ (m : ℕ). HashHolds m (key t′) (val t′) e) (h .size)
+                (stored-holds (poolRows t) (key t) (val t) q (holds-rows h) p i (key t′) (val t′) l (g .reaches l) (g .ends l)
                 same-key same-val
                 (key-setRow-other t i (p .address) (kindCode (p .kind)) (p .stored .first) (p .stored .count))
                 (val-setRow-other t i (p .address) (kindCode (p .kind)) (p .stored .first) (p .stored .count))
@@ -163,7 +163,7 @@ module _ (t : List ℕ) (p : Pooled) (i : ℕ) (g : Placed t (p .address) i) whe
       entered-new : key t i ≡ 0 → Entered n p q Done t t′
       entered-new z =
           let absent : find (p .address) q ≡ none =
-          free-absent (rowsOf t) (key t) (val t) q (holds-rows h) (p .address) i l (g .reaches l) z
+          free-absent (poolRows t) (key t) (val t) q (holds-rows h) (p .address) i l (g .reaches l) z
           in
           let longer : length (q ++ (p ∷ [])) ≡ suc (length q) = simp length-append (omega arith) in
           let left : Represents t′ n (q ++ (p ∷ [])) =

@@ -18,7 +18,7 @@ use Rattle.blocks.specs.declared.pool.Found.{Found}
 use Rattle.blocks.specs.declared.pool.Found.the-variants.{Nothing as nothing-found, At as found-at}
 use Rattle.blocks.specs.declared.pool.Cached.{Cached}
 use Rattle.blocks.specs.declared.pool.Cached.the-variants.{Nothing as nothing-cached, At as cached-at, Refused}
-use Rattle.blocks.specs.Hashed.{rowsOf, key, val, used, Holds, Represents, Placed}
+use Rattle.blocks.specs.Hashed.{poolRows, key, val, used, HashHolds, Represents, PlacedAt}
 use Rattle.blocks.specs.Pool.{meantFound, meantCached, Finds, FindsAs}
 use Rattle.blocks.proofs.Search.{eq-or-ne, free-absent, all-absent, size-le}
 use Rattle.blocks.proofs.Scanning.{key-free, key-used}
@@ -28,8 +28,8 @@ pub represents-size : {t : List ℕ} {n : ℕ} {q : List Pooled} → Represents 
 represents-size {t} {n} {q} h = size-le n (key t) (val t) q (h .holds)
 
 -- the invariant at the table's own number of rows
-pub holds-rows : {t : List ℕ} {n : ℕ} {q : List Pooled} → Represents t n q → Holds (rowsOf t) (key t) (val t) q
-holds-rows {t} {n} {q} h = subst (λ (m : ℕ). Holds m (key t) (val t) q) (sym (h .size)) (h .holds)
+pub holds-rows : {t : List ℕ} {n : ℕ} {q : List Pooled} → Represents t n q → HashHolds (poolRows t) (key t) (val t) q
+holds-rows {t} {n} {q} h = subst (λ (m : ℕ). HashHolds m (key t) (val t) q) (sym (h .size)) (h .holds)
 
 -- ---- the table of zeros
 
@@ -44,7 +44,7 @@ unfolding find
 represents-zero n =
     let zeros : List ℕ = cleared n in
     let size : length zeros ≡ n = length-replicate n 0 in
-    let free : (i : ℕ) → i < rowsOf zeros → key zeros i ≡ 0 =
+    let free : (i : ℕ) → i < poolRows zeros → key zeros i ≡ 0 =
     λ i l. key-free zeros i (getD-replicate n (4 * i + 1) 0 0 (omega arith))
     in
     record {
@@ -84,9 +84,9 @@ module _ {t : List ℕ} {n : ℕ} {q p : List Pooled} (h : Represents t n q) (g 
 
 -- ---- find
 
-module _ (t : List ℕ) (a i : ℕ) (p : Placed t a i) where
+module _ (t : List ℕ) (a i : ℕ) (p : PlacedAt t a i) where
   pub finds-here :
-      (k : ours.Kind) → i < rowsOf t → (getD t (4 * i + 1) 0 ≡ 0 → ⊥) → meantKind k ≡ kindFrom (getD t (4 * i + 1) 0) →
+      (k : ours.Kind) → i < poolRows t → (getD t (4 * i + 1) 0 ≡ 0 → ⊥) → meantKind k ≡ kindFrom (getD t (4 * i + 1) 0) →
       Finds t a (found-at k (getD t (4 * i + 2) 0) (getD t (4 * i + 3) 0))
   unfolding val
   finds-here k l n e =
@@ -103,14 +103,14 @@ module _ (t : List ℕ) (a i : ℕ) (p : Placed t a i) where
             ∙ sym (holds-rows h .here a i l own);
       }
 
-  pub finds-free : i < rowsOf t → getD t (4 * i + 1) 0 ≡ 0 → Finds t a nothing-found
+  pub finds-free : i < poolRows t → getD t (4 * i + 1) 0 ≡ 0 → Finds t a nothing-found
   finds-free l e =
       record {
-        found = λ {n} {q} h. sym (free-absent (rowsOf t) (key t) (val t) q (holds-rows h) a i l (p .reaches l) (key-free t i e));
+        found = λ {n} {q} h. sym (free-absent (poolRows t) (key t) (val t) q (holds-rows h) a i l (p .reaches l) (key-free t i e));
       }
 
-  pub finds-past : rowsOf t ≤ i → Finds t a nothing-found
-  finds-past l = record { found = λ {n} {q} h. sym (all-absent (rowsOf t) (key t) (val t) q (holds-rows h) a (p .all l)) }
+  pub finds-past : poolRows t ≤ i → Finds t a nothing-found
+  finds-past l = record { found = λ {n} {q} h. sym (all-absent (poolRows t) (key t) (val t) q (holds-rows h) a (p .all l)) }
 
 -- nothing is found in a cleared table
 none-found : (a : ℕ) (r : Found) → meantFound a r ≡ none → r ≡ nothing-found

@@ -6,12 +6,12 @@ use mathlib.Core.List.{List}
 use denote.Ref.{RefT, now}
 use Rattle.format.specs.Field.{field, stands, orZero, fieldAt}
 use Rattle.format.specs.declared.Refusal.the-variants.{PastTheEnd}
-use Rattle.bones.specs.declared.Words3.{Words3}
-use Rattle.bones.specs.declared.Words4.{Words4}
+use Rattle.format.specs.declared.Words3.{Words3}
+use Rattle.format.specs.declared.Words4.{Words4}
 use Rattle.blocks.specs.declared.cursor.Cursor.{Cursor}
 use Rattle.blocks.specs.declared.cursor.After.{After}
-use Rattle.blocks.specs.declared.cursor.Checked.{Checked}
-use Rattle.blocks.specs.declared.cursor.Checked.the-variants.{Within, Refused}
+use Rattle.blocks.specs.declared.cursor.CursorCheck.{CursorCheck}
+use Rattle.blocks.specs.declared.cursor.CursorCheck.the-variants.{Within, Refused}
 
 -- a sum of 64 bits, or the greatest number of 64 bits where it does not fit
 abbrev pub saturatingAdd : ℕ → ℕ → ℕ
@@ -20,26 +20,26 @@ saturatingAdd m n = min (m + n) (2 ^ 64 - 1)
 -- ---- over a slice, a position in it and a mark
 
 -- where a read of k bytes leaves the position and the mark: it moves by k, past the end too, and marks where not all k bytes stand
-unfoldable pub after : ℕ → List ℕ → ℕ → Bool → After
-after k s at mark = record { pos = saturatingAdd at k; overrun = mark || not (stands k s at) }
+unfoldable pub afterRead : ℕ → List ℕ → ℕ → Bool → After
+afterRead k s at mark = record { pos = saturatingAdd at k; overrun = mark || not (stands k s at) }
 
 -- the word at an offset, or 0 where not all k bytes of the whole read, from `at` on, stand
-abbrev pub wordOf : ℕ → List ℕ → ℕ → ℕ → ℕ
-wordOf k s at i = orZero (stands k s at) (field 4 s i)
+abbrev pub wordWithin : ℕ → List ℕ → ℕ → ℕ → ℕ
+wordWithin k s at i = orZero (stands k s at) (field 4 s i)
 
 -- three floats as their words, or three zeros
 unfoldable pub words3At : List ℕ → ℕ → Words3
-words3At s at = record { x = wordOf 12 s at at; y = wordOf 12 s at (at + 4); z = wordOf 12 s at (at + 8) }
+words3At s at = record { x = wordWithin 12 s at at; y = wordWithin 12 s at (at + 4); z = wordWithin 12 s at (at + 8) }
 
 -- four floats as their words, or four zeros
 unfoldable pub words4At : List ℕ → ℕ → Words4
 words4At s at =
-    record { x = wordOf 16 s at at; y = wordOf 16 s at (at + 4); z = wordOf 16 s at (at + 8); w = wordOf 16 s at (at + 12) }
+    record { x = wordWithin 16 s at at; y = wordWithin 16 s at (at + 4); z = wordWithin 16 s at (at + 8); w = wordWithin 16 s at (at + 12) }
 
 -- 11 where the mark is set
-abbrev pub verdict : Bool → Checked
-verdict true = Refused PastTheEnd
-verdict false = Within
+abbrev pub markedCheck : Bool → CursorCheck
+markedCheck true = Refused PastTheEnd
+markedCheck false = Within
 
 -- ---- over a cursor
 
@@ -54,7 +54,7 @@ readBy f c = f (now (c .«data»)) (c .pos)
 -- the cursor behind a read of k bytes
 abbrev pub taken : ℕ → Cursor → Cursor
 taken k c =
-    let a = after k (now (c .«data»)) (c .pos) (c .overrun) in
+    let a = afterRead k (now (c .«data»)) (c .pos) (c .overrun) in
     record { «data» = c .«data»; pos = a .pos; base = c .base; overrun = a .overrun }
 
 -- the cursor n bytes further on, its mark as it was

@@ -12,8 +12,8 @@ use Rattle.blocks.specs.Kinds.{kindFrom}
 
 -- ---- the rows of a table
 
-abbrev pub rowsOf : List ℕ → ℕ
-rowsOf t = length t / 4
+abbrev pub poolRows : List ℕ → ℕ
+poolRows t = length t / 4
 
 -- by a row's code and its address: 0 for a free row, else the address and one
 abbrev pub keyOf : ℕ → ℕ → ℕ
@@ -52,7 +52,7 @@ pub record Reaches (n : ℕ) (key : ℕ → ℕ) (a j : ℕ) : Type 0 where
 
 -- ---- the invariant, over the rows' keys and values as functions of their number
 
-pub record Holds (n : ℕ) (key : ℕ → ℕ) (val : ℕ → Pooled) (q : List Pooled) : Type 0 where
+pub record HashHolds (n : ℕ) (key : ℕ → ℕ) (val : ℕ → Pooled) (q : List Pooled) : Type 0 where
   pub reach : (a j : ℕ) → j < n → key j ≡ suc a → Reaches n key a j
   pub here : (a j : ℕ) → j < n → key j ≡ suc a → find a q ≡ some (val j)
   pub nowhere : (a : ℕ) → ((j : ℕ) → j < n → key j ≡ suc a → ⊥) → find a q ≡ none
@@ -60,8 +60,8 @@ pub record Holds (n : ℕ) (key : ℕ → ℕ) (val : ℕ → Pooled) (q : List 
 
 -- the table t has n rows and holds the pool q
 pub record Represents (t : List ℕ) (n : ℕ) (q : List Pooled) : Type 0 where
-  pub size : rowsOf t ≡ n
-  pub holds : Holds n (key t) (val t) q
+  pub size : poolRows t ≡ n
+  pub holds : HashHolds n (key t) (val t) q
 
 -- ---- what the search promises
 
@@ -71,8 +71,8 @@ pub record Scanned (t : List ℕ) (a from to r : ℕ) : Type 0 where
   pub passed : (i : ℕ) → from ≤ i → i < r → Other (key t) a i
   pub ends : r < to → 0 < key t r → key t r ≡ suc a
 
-pub record Placed (t : List ℕ) (a r : ℕ) : Type 0 where
-  pub high : r ≤ rowsOf t
-  pub reaches : r < rowsOf t → Reaches (rowsOf t) (key t) a r
-  pub ends : r < rowsOf t → 0 < key t r → key t r ≡ suc a
-  pub all : rowsOf t ≤ r → (i : ℕ) → i < rowsOf t → Other (key t) a i
+pub record PlacedAt (t : List ℕ) (a r : ℕ) : Type 0 where
+  pub high : r ≤ poolRows t
+  pub reaches : r < poolRows t → Reaches (poolRows t) (key t) a r
+  pub ends : r < poolRows t → 0 < key t r → key t r ≡ suc a
+  pub all : poolRows t ≤ r → (i : ℕ) → i < poolRows t → Other (key t) a i

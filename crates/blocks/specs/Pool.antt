@@ -10,7 +10,7 @@ use Rattle.format.specs.Result.{Res, refused, done, _>>=_, need}
 use Rattle.format.specs.Refusal.{number}
 use Rattle.format.specs.Tables.{Kind, Rows, rows, Pooled, pooled, find, replace, asKind}
 use Rattle.blocks.specs.Kinds.{meantKind}
-use Rattle.blocks.specs.Hashed.{Represents, Placed}
+use Rattle.blocks.specs.Hashed.{Represents, PlacedAt}
 use Rattle.blocks.specs.declared.pool.Found.{Found}
 use Rattle.blocks.specs.declared.pool.Found.the-variants.{Nothing as nothing-found, At as found-at}
 use Rattle.blocks.specs.declared.pool.Cached.{Cached}
@@ -19,15 +19,15 @@ use Rattle.blocks.specs.declared.pool.Stored.{Stored}
 use Rattle.blocks.specs.declared.pool.Stored.the-variants.{Done, Full}
 
 -- a row of the pool by its four words
-abbrev pub rowOf : ℕ → Kind → ℕ → ℕ → Pooled
-rowOf a k f c = pooled a k (rows f c)
+abbrev pub poolRow : ℕ → Kind → ℕ → ℕ → Pooled
+poolRow a k f c = pooled a k (rows f c)
 
 -- ---- the answers as the definitions have them
 
 -- the row found at the address a
 abbrev pub meantFound : ℕ → Found → Option Pooled
 meantFound a nothing-found = none
-meantFound a (found-at k f c) = some (rowOf a (meantKind k) f c)
+meantFound a (found-at k f c) = some (poolRow a (meantKind k) f c)
 
 -- where what was read is stored, or document 01's number
 abbrev pub meantCached : Cached → Res (Option Rows)
@@ -79,10 +79,10 @@ pub record Stores (p : Pooled) (r : Stored) (t₀ t : List ℕ) : Type 0 where
 -- ---- the same at the row i where the search for an address ended
 
 pub record FindsAt (t : List ℕ) (i : ℕ) (r : Found) : Type 0 where
-  pub at : (a : ℕ) → Placed t a i → Finds t a r
+  pub at : (a : ℕ) → PlacedAt t a i → Finds t a r
 
 pub record FindsAsAt (t : List ℕ) (k : Kind) (i : ℕ) (r : Cached) : Type 0 where
-  pub at : (a : ℕ) → Placed t a i → FindsAs t k a r
+  pub at : (a : ℕ) → PlacedAt t a i → FindsAs t k a r
 
 pub record StoresAt (i : ℕ) (p : Pooled) (r : Stored) (t₀ t : List ℕ) : Type 0 where
-  pub at : Placed t₀ (p .address) i → Stores p r t₀ t
+  pub at : PlacedAt t₀ (p .address) i → Stores p r t₀ t

@@ -2,10 +2,10 @@
 // that runs past the end yields zero and marks the overrun, and `check` then refuses.
 ghost use mathlib.Core.Path.{_≡_};
 ghost use Rattle.format.specs.Field.{fieldAt};
-ghost use Rattle.blocks.specs.Cursor.{saturatingAdd, after, words3At, words4At, verdict, cursorAt, readBy, taken, skipped, vaOf};
-use bones::Words3;
-use bones::Words4;
+ghost use Rattle.blocks.specs.Cursor.{saturatingAdd, afterRead, words3At, words4At, markedCheck, cursorAt, readBy, taken, skipped, vaOf};
 use format::Refusal;
+use format::Words3;
+use format::Words4;
 
 pub struct Cursor<'a> {
     // the whole section
@@ -18,7 +18,7 @@ pub struct Cursor<'a> {
     overrun: bool,
 }
 
-pub enum Checked {
+pub enum CursorCheck {
     Within,
     // 11
     Refused(Refusal),
@@ -44,7 +44,7 @@ fn saturating_add(m: usize, n: usize) -> usize
 
 // Where a read of k bytes leaves the position and the mark.
 pub fn take(s: &[u8], at: usize, k: usize, overrun: bool) -> After
-    ensures answer { λ r. ⌜ r ≡ after k (now (s .entry)) at overrun ⌝ }
+    ensures answer { λ r. ⌜ r ≡ afterRead k (now (s .entry)) at overrun ⌝ }
 {
     let pos = saturating_add(at, k);
     if fields::stands(s, at, k) {
@@ -104,13 +104,13 @@ fn words4_at(s: &[u8], at: usize) -> Words4
 }
 
 // 11 where the mark is set.
-fn refused_if(overrun: bool) -> Checked
-    ensures answer { λ r. ⌜ r ≡ verdict overrun ⌝ }
+fn refused_if(overrun: bool) -> CursorCheck
+    ensures answer { λ r. ⌜ r ≡ markedCheck overrun ⌝ }
 {
     if overrun {
-        return Checked::Refused(Refusal::PastTheEnd);
+        return CursorCheck::Refused(Refusal::PastTheEnd);
     }
-    Checked::Within
+    CursorCheck::Within
 }
 
 // The address of a position.
@@ -144,9 +144,9 @@ impl<'a> Cursor<'a> {
     {
         let data = self.data;
         let at = self.pos;
-        let after = take(data, at, 1, self.overrun);
-        self.pos = after.pos;
-        self.overrun = after.overrun;
+        let afterRead = take(data, at, 1, self.overrun);
+        self.pos = afterRead.pos;
+        self.overrun = afterRead.overrun;
         u8_at(data, at)
     }
 
@@ -156,9 +156,9 @@ impl<'a> Cursor<'a> {
     {
         let data = self.data;
         let at = self.pos;
-        let after = take(data, at, 2, self.overrun);
-        self.pos = after.pos;
-        self.overrun = after.overrun;
+        let afterRead = take(data, at, 2, self.overrun);
+        self.pos = afterRead.pos;
+        self.overrun = afterRead.overrun;
         fields::u16_at(data, at)
     }
 
@@ -169,9 +169,9 @@ impl<'a> Cursor<'a> {
     {
         let data = self.data;
         let at = self.pos;
-        let after = take(data, at, 2, self.overrun);
-        self.pos = after.pos;
-        self.overrun = after.overrun;
+        let afterRead = take(data, at, 2, self.overrun);
+        self.pos = afterRead.pos;
+        self.overrun = afterRead.overrun;
         fields::u16_at(data, at)
     }
 
@@ -181,9 +181,9 @@ impl<'a> Cursor<'a> {
     {
         let data = self.data;
         let at = self.pos;
-        let after = take(data, at, 4, self.overrun);
-        self.pos = after.pos;
-        self.overrun = after.overrun;
+        let afterRead = take(data, at, 4, self.overrun);
+        self.pos = afterRead.pos;
+        self.overrun = afterRead.overrun;
         fields::u32_at(data, at)
     }
 
@@ -193,9 +193,9 @@ impl<'a> Cursor<'a> {
     {
         let data = self.data;
         let at = self.pos;
-        let after = take(data, at, 8, self.overrun);
-        self.pos = after.pos;
-        self.overrun = after.overrun;
+        let afterRead = take(data, at, 8, self.overrun);
+        self.pos = afterRead.pos;
+        self.overrun = afterRead.overrun;
         fields::u64_at(data, at)
     }
 
@@ -206,9 +206,9 @@ impl<'a> Cursor<'a> {
     {
         let data = self.data;
         let at = self.pos;
-        let after = take(data, at, 4, self.overrun);
-        self.pos = after.pos;
-        self.overrun = after.overrun;
+        let afterRead = take(data, at, 4, self.overrun);
+        self.pos = afterRead.pos;
+        self.overrun = afterRead.overrun;
         fields::u32_at(data, at)
     }
 
@@ -219,9 +219,9 @@ impl<'a> Cursor<'a> {
     {
         let data = self.data;
         let at = self.pos;
-        let after = take(data, at, 12, self.overrun);
-        self.pos = after.pos;
-        self.overrun = after.overrun;
+        let afterRead = take(data, at, 12, self.overrun);
+        self.pos = afterRead.pos;
+        self.overrun = afterRead.overrun;
         words3_at(data, at)
     }
 
@@ -231,9 +231,9 @@ impl<'a> Cursor<'a> {
     {
         let data = self.data;
         let at = self.pos;
-        let after = take(data, at, 16, self.overrun);
-        self.pos = after.pos;
-        self.overrun = after.overrun;
+        let afterRead = take(data, at, 16, self.overrun);
+        self.pos = afterRead.pos;
+        self.overrun = afterRead.overrun;
         words4_at(data, at)
     }
 
@@ -245,8 +245,8 @@ impl<'a> Cursor<'a> {
     }
 
     // 11 where a read so far ran past the end.
-    pub fn check(self) -> Checked
-        ensures answer { λ r. ⌜ r ≡ verdict (self .entry .overrun) ⌝ }
+    pub fn check(self) -> CursorCheck
+        ensures answer { λ r. ⌜ r ≡ markedCheck (self .entry .overrun) ⌝ }
     {
         refused_if(self.overrun)
     }

@@ -7,13 +7,11 @@
 ghost use mathlib.Core.Path.{_≡_};
 ghost use Prim.Native.Nat.{_≤_, _<_};
 ghost use Rattle.blocks.specs.Kinds.{meantKind};
-ghost use Rattle.blocks.specs.Hashed.{rowsOf, homeOf, Scanned, Placed};
-ghost use Rattle.blocks.specs.Pool.{rowOf, Finds, FindsAs, Stores, FindsAt, FindsAsAt, StoresAt};
+ghost use Rattle.blocks.specs.Hashed.{poolRows, homeOf, Scanned, PlacedAt};
+ghost use Rattle.blocks.specs.Pool.{poolRow, Finds, FindsAs, Stores, FindsAt, FindsAsAt, StoresAt};
 use crate::kinds::Kind;
+use format::POOL_WORDS;
 use format::Refusal;
-
-// The words of a row.
-pub const POOL_WORDS: usize = 4;
 
 // What was read at an address.
 pub enum Found {
@@ -56,7 +54,7 @@ fn home(va: u64, rows: usize) -> usize
 
 // The first row of `from` .. `to` that is free or has the address, else `to`.
 fn scan(pool: &[u64], va: u64, from: usize, to: usize) -> usize
-    requires { ⌜ (from ≤ to) × (to ≤ rowsOf (now pool)) ⌝ }
+    requires { ⌜ (from ≤ to) × (to ≤ poolRows (now pool)) ⌝ }
     ensures { λ r. ⌜ Scanned (now (pool .entry)) va from to r ⌝ }
 {
     let mut i = from;
@@ -76,7 +74,7 @@ fn scan(pool: &[u64], va: u64, from: usize, to: usize) -> usize
 // of rows if there is neither. Two straight scans: from the home to the end, and from the start to the home. One search serves
 // `cached_at` and `put_at`, as long as no other row is stored between them.
 pub fn place(pool: &[u64], va: u64) -> usize
-    ensures row { λ r. ⌜ Placed (now (pool .entry)) va r ⌝ }
+    ensures row { λ r. ⌜ PlacedAt (now (pool .entry)) va r ⌝ }
 {
     let rows = pool.len() / POOL_WORDS;
     if rows == 0 {
@@ -140,7 +138,7 @@ pub fn cached_as(pool: &[u64], kind: Kind, va: u64) -> Cached
 
 // Pools what was read at an address whose search ended at row i, as `put` does.
 pub fn put_at(pool: &mut [u64], i: usize, va: u64, kind: Kind, first: u64, count: u64) -> Stored
-    ensures table { λ r. ⌜ StoresAt i (rowOf va (meantKind kind) first count) r (now (pool .entry)) (now (pool .exit)) ⌝ }
+    ensures table { λ r. ⌜ StoresAt i (poolRow va (meantKind kind) first count) r (now (pool .entry)) (now (pool .exit)) ⌝ }
 {
     if pool.len() / POOL_WORDS <= i {
         return Stored::Full;
@@ -156,7 +154,7 @@ pub fn put_at(pool: &mut [u64], i: usize, va: u64, kind: Kind, first: u64, count
 // Pools what was read at an address, in the place of the earlier row of the address if there is one. The table then holds the
 // pool with the row; of a full table every word is as it was.
 pub fn put(pool: &mut [u64], va: u64, kind: Kind, first: u64, count: u64) -> Stored
-    ensures table { λ r. ⌜ Stores (rowOf va (meantKind kind) first count) r (now (pool .entry)) (now (pool .exit)) ⌝ }
+    ensures table { λ r. ⌜ Stores (poolRow va (meantKind kind) first count) r (now (pool .entry)) (now (pool .exit)) ⌝ }
 {
     let i = place(pool, va);
     put_at(pool, i, va, kind, first, count)

@@ -8,10 +8,10 @@ use lib.Seq.{sets}
 use denote.Ref.{RefT}
 use Rattle.format.specs.Field.{fieldAt, whichList}
 use Rattle.format.specs.Refusal.{number}
-use Rattle.blocks.specs.Cursor.{words3At, words4At, verdict, cursorAt, readBy, taken, skipped, vaOf}
+use Rattle.blocks.specs.Cursor.{words3At, words4At, markedCheck, cursorAt, readBy, taken, skipped, vaOf}
 use Rattle.blocks.specs.declared.cursor.Cursor.{Cursor}
-use Rattle.blocks.specs.declared.cursor.Checked.{Checked}
-use Rattle.blocks.specs.declared.cursor.Checked.the-variants.{Within, Refused}
+use Rattle.blocks.specs.declared.cursor.CursorCheck.{CursorCheck}
+use Rattle.blocks.specs.declared.cursor.CursorCheck.the-variants.{Within, Refused}
 use Rattle.cursors.specs.declared.Turns.{Turns}
 
 -- the cursor before each read, in the order of the reads
@@ -34,11 +34,11 @@ module _ (s : RefT (List ℕ)) (pos base n : ℕ) where
   abbrev pub floatAt : Cursor
   floatAt = taken 8 longAt
 
-  abbrev pub threeAt : Cursor
-  threeAt = taken 4 floatAt
+  abbrev pub threeFrom : Cursor
+  threeFrom = taken 4 floatAt
 
   abbrev pub fourAt : Cursor
-  fourAt = taken 12 threeAt
+  fourAt = taken 12 threeFrom
 
   abbrev pub skipAt : Cursor
   skipAt = taken 16 fourAt
@@ -55,16 +55,16 @@ module _ (s : RefT (List ℕ)) (pos base n : ℕ) where
         word = readBy (fieldAt 4) wordAt;
         long = readBy (fieldAt 8) longAt;
         float = readBy (fieldAt 4) floatAt;
-        three = readBy words3At threeAt;
+        three = readBy words3At threeFrom;
         four = readBy words4At fourAt;
         va = vaOf lastAt;
-        checked = verdict (lastAt .overrun);
+        checked = markedCheck (lastAt .overrun);
       }
 
 -- ---- as numbers
 
 -- 0, or document 01's number
-abbrev pub statusOf : Checked → ℕ
+abbrev pub statusOf : CursorCheck → ℕ
 statusOf Within = 0
 statusOf (Refused x) = number x
 

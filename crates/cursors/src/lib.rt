@@ -1,10 +1,10 @@
 // Each method of a cursor in turn, over plain parameters: what the run against the Rust calls (`Cursor` of `src/blocks/mod.rs`).
 ghost use mathlib.Core.Path.{_≡_};
 ghost use Rattle.cursors.specs.Turns.{inTurn, statusOf, fit, told};
-use blocks::cursor::Checked;
 use blocks::cursor::Cursor;
-use bones::Words3;
-use bones::Words4;
+use blocks::cursor::CursorCheck;
+use format::Words3;
+use format::Words4;
 
 // What each read gives, and where it leaves the cursor.
 pub struct Turns {
@@ -17,7 +17,7 @@ pub struct Turns {
     pub three: Words3,
     pub four: Words4,
     pub va: u64,
-    pub checked: Checked,
+    pub checked: CursorCheck,
 }
 
 // A cursor over the section s at a position: each read in turn, then a skip of n bytes, so that a skip that marked would be seen.
@@ -52,12 +52,12 @@ pub fn in_turn(s: &[u8], pos: usize, base: u64, n: usize) -> Turns
 pub const NUMBERS: usize = 15;
 
 // The status that C and Rust are told: 0, or document 01's number.
-fn status(c: Checked) -> u64
+fn status(c: CursorCheck) -> u64
     ensures { λ r. ⌜ r ≡ statusOf c ⌝ }
 {
     match c {
-        Checked::Within => 0,
-        Checked::Refused(x) => format::code(x) as u64,
+        CursorCheck::Within => 0,
+        CursorCheck::Refused(x) => format::code(x) as u64,
     }
 }
 

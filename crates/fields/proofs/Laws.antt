@@ -79,7 +79,7 @@ by-test : (a b : ℕ) (t : Bool) → leb a b ≡ t → (a ≤ b) ⊎ (b < a)
 by-test a b true e = inl (leb-true a b e)
 by-test a b false e = inr (leb-false a b e)
 
-le-or-lt : (a b : ℕ) → (a ≤ b) ⊎ (b < a)
+pub le-or-lt : (a b : ℕ) → (a ≤ b) ⊎ (b < a)
 le-or-lt a b = by-test a b (leb a b) refl
 
 pub length-putAt : (k : ℕ) (s : List ℕ) (at v : ℕ) → length (putAt k s at v) ≡ length s

@@ -8,6 +8,8 @@ ghost use Rattle.format.specs.Field as Field;
 ghost use Rattle.format.specs.Field.{field, bytes, fieldAt, putAt};
 ghost use Rattle.fields.specs.Placed.{placed};
 
+pub mod runs; // runs of words
+
 // Whether a field was stored.
 pub enum Placed {
     // All its bytes stand in the slice and hold the number.

@@ -88,13 +88,13 @@ checkWith es = check (controlWith es) programRoom programDeriveRoom base
 -- ---- parts of an answer
 
 -- the bones read, with their names' bytes
-abbrev pub namesIn : Section → Res (Option Read) → Res (Option (List NamedBone))
-namesIn sec (refused n) = refused n
-namesIn sec (done none) = done none
-namesIn sec (done (some r)) = done (some (map (naming (nameBytes sec)) (r .bones)))
+abbrev pub bonesNamed : Section → Res (Option Read) → Res (Option (List NamedBone))
+bonesNamed sec (refused n) = refused n
+bonesNamed sec (done none) = done none
+bonesNamed sec (done (some r)) = done (some (map (naming (nameBytes sec)) (r .bones)))
 
 abbrev pub bonesBack : Section → Res (Option (List NamedBone))
-bonesBack sec = namesIn sec (read sec programRoom base)
+bonesBack sec = bonesNamed sec (read sec programRoom base)
 
 abbrev pub childrenRead : Res (Option Read) → List ℕ
 childrenRead (done (some r)) = r .children

@@ -3,6 +3,7 @@ pub mod Result
 pub mod Field
 pub mod Section
 pub mod Bone
+pub mod Words
 pub mod Chains
 pub mod Children
 pub mod Matrices

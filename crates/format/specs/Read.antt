@@ -11,9 +11,9 @@ use Rattle.format.specs.Field.{words}
 use Rattle.format.specs.Section.{Section, Place, cursor, part, array, nameAt}
 use Rattle.format.specs.Bone.{Bone, words4, keeping}
 use Rattle.format.specs.Deriving.{entryRow}
-use Rattle.format.specs.Tables.{ListTable, inverseTable, localTable, parentsTable, childrenTable, tableNumber, width, rowWords}
+use Rattle.format.specs.Tables.{ListTable, inverseTable, localTable, parentsTable, childrenTable, tableNumber, width, wordsPerRow}
 use Rattle.format.specs.Tables.{Kind, skeleton, buckets, entry, block, bone, string, list, sameKind}
-use Rattle.format.specs.Tables.{Rows, rows, Pooled, SkeletonRow, Tables, Room, roomFor}
+use Rattle.format.specs.Tables.{Rows, rows, Pooled, SkeletonRow, Tables, Room, listRoom}
 use Rattle.format.specs.Tables.{withBones, addBone, addMember, addBucket, addEntry, addSkeleton, wordsIn, addWords, listAt}
 use Rattle.format.specs.Tables.{find, put, readAs}
 use Rattle.format.specs.Records.{Header, header, boneRow, nameField, entryTag, entryPosition, entryNext, columnWords}
@@ -207,14 +207,14 @@ module _ (sec : Section) (room : Room) where
   -- words stored as new rows of a list table
   unfoldable pub storeList : ListTable → List ℕ → Tables → Step Rows
   storeList l w t = do
-    u ← need 1 (leb (length (wordsIn l t.lists) + length w) (rowWords l * roomFor l room))
+    u ← need 1 (leb (length (wordsIn l t.lists) + length w) (wordsPerRow l * listRoom l room))
     done (rows (length (wordsIn l t.lists)) (length w), addWords l w t)
 
   -- a list read anew: n rows
   unfoldable pub readNew : ListTable → ℕ → ℕ → Tables → Step Rows
   readNew l va n t = do
-    b ← array sec va (width l * rowWords l * n)
-    storeList l (words (width l) (rowWords l * n) b) t
+    b ← array sec va (width l * wordsPerRow l * n)
+    storeList l (words (width l) (wordsPerRow l * n) b) t
 
   -- a list of the same kind given again: one of the other table is copied
   unfoldable pub givenAgain : Bool → ListTable → ListTable → Rows → Tables → Step Rows

@@ -29,11 +29,11 @@ width localTable = 4
 width parentsTable = 2
 width childrenTable = 2
 
-abbrev pub rowWords : ListTable → ℕ
-rowWords inverseTable = 16
-rowWords localTable = 16
-rowWords parentsTable = 1
-rowWords childrenTable = 1
+abbrev pub wordsPerRow : ListTable → ℕ
+wordsPerRow inverseTable = 16
+wordsPerRow localTable = 16
+wordsPerRow parentsTable = 1
+wordsPerRow childrenTable = 1
 
 -- ---- rows
 
@@ -41,6 +41,11 @@ rowWords childrenTable = 1
 pub record Rows : Type 0 where
   pub first : ℕ
   pub count : ℕ
+
+-- how many rows a part has; an absent part has none
+abbrev pub partLength : Option Rows → ℕ
+partLength none = 0
+partLength (some r) = r .count
 
 abbrev pub rows : ℕ → ℕ → Rows
 rows f c = record { first = f; count = c }
@@ -183,11 +188,11 @@ pub record Room : Type 0 where
   pub children : ℕ
   pub pool : ℕ
 
-abbrev pub roomFor : ListTable → Room → ℕ
-roomFor inverseTable r = r .inverse
-roomFor localTable r = r .local
-roomFor parentsTable r = r .parents
-roomFor childrenTable r = r .children
+abbrev pub listRoom : ListTable → Room → ℕ
+listRoom inverseTable r = r .inverse
+listRoom localTable r = r .local
+listRoom parentsTable r = r .parents
+listRoom childrenTable r = r .children
 
 -- ---- the pool
 

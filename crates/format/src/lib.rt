@@ -1,4 +1,5 @@
-// The format of skeleton and joint sections: refusals, record sizes and constants. What each call means stands in `specs/`.
+// The format of skeleton and joint sections: refusals, the sizes of records, the widths and words of the rows of lent tables, constants,
+// and floats as words. What each call means stands in `specs/`.
 ghost use mathlib.Core.Path.{_≡_};
 ghost use Rattle.format.specs.Refusal.{number};
 
@@ -34,6 +35,90 @@ pub const BONE_READ: usize = 70;
 
 pub const JOINTS_READ: usize = 52;
 
+// ---- rows of the lent tables: their widths in words (`specs/Rows.antt`); a bucket, a parent and a child entry are one word each
+
+pub const BONE_WORDS: usize = 21;
+
+pub const ENTRY_WORDS: usize = 3;
+
+pub const MATRIX_WORDS: usize = 16;
+
+// of a pool of 64-bit words
+pub const POOL_WORDS: usize = 4;
+
+// of the pending list
+pub const PENDING_WORDS: usize = 2;
+
+// of limits: the named fields, and behind them every slot of the record
+pub const LIMIT_NAMED_WORDS: usize = 7;
+
+pub const LIMIT_LEAST: usize = 1;
+
+pub const LIMIT_GREATEST: usize = 4;
+
+pub const ROTATION_LIMIT_WORDS: usize = 55;
+
+pub const TRANSLATION_LIMIT_WORDS: usize = 23;
+
+// ---- the words of a bone's row; where two fields share a word, the first is its lower half
+
+pub const ROTATION_X: usize = 0;
+
+pub const ROTATION_Y: usize = 1;
+
+pub const ROTATION_Z: usize = 2;
+
+pub const ROTATION_W: usize = 3;
+
+pub const TRANSLATION_X: usize = 4;
+
+pub const TRANSLATION_Y: usize = 5;
+
+pub const TRANSLATION_Z: usize = 6;
+
+pub const SCALE_X: usize = 7;
+
+pub const SCALE_Y: usize = 8;
+
+pub const SCALE_Z: usize = 9;
+
+pub const SIBLING_AND_PARENT: usize = 10;
+
+pub const FLAGS_AND_INDEX: usize = 11;
+
+// beside it a free half
+pub const TAG: usize = 12;
+
+// the four kept words start here
+pub const KEPT_X: usize = 13;
+
+// two words, the lower first
+pub const NAME_ADDRESS: usize = 17;
+
+pub const NAME_ADDRESS_UPPER: usize = 18;
+
+pub const NAME_SIZE: usize = 19;
+
+pub const NAME_SIZE_UPPER: usize = 20;
+
+// ---- the words of an entry's row
+
+pub const ENTRY_TAG: usize = 0;
+
+pub const ENTRY_POSITION: usize = 1;
+
+pub const ENTRY_LINK: usize = 2;
+
+// ---- the words of column 4 of a matrix
+
+pub const COLUMN4_X: usize = 3;
+
+pub const COLUMN4_Y: usize = 7;
+
+pub const COLUMN4_Z: usize = 11;
+
+pub const COLUMN4_W: usize = 15;
+
 // ---- the kind words that our writer stores
 
 pub const SKELETON_KIND: u32 = 1080114336;
@@ -47,6 +132,21 @@ pub const MOST: usize = 65535;
 
 // the longest name that our writer takes, in bytes
 pub const LONGEST_NAME: usize = 255;
+
+// three floats as their words
+pub struct Words3 {
+    pub x: u32,
+    pub y: u32,
+    pub z: u32,
+}
+
+// four floats as their words
+pub struct Words4 {
+    pub x: u32,
+    pub y: u32,
+    pub z: u32,
+    pub w: u32,
+}
 
 // Where a name lies: its address and its length in bytes. Where a row holds one, address 0 is no name.
 pub struct Place {

@@ -17,8 +17,8 @@ use Rattle.format.specs.Layout.{base, pointer}
 use Rattle.format.specs.Joints.{RotationLimit, rotationSlots, rotationLimit, TranslationLimit, translationSlots, translationLimit}
 use Rattle.format.specs.Joints.{jointsItems, jointsLayout, limitRows, limits, mapped, Joints, readJoints}
 use Rattle.format.proofs.Fields.{length-bytes, valueOf-bytes}
-use Rattle.joints.specs.Reading.{recordOf, taken, listsRead}
-use Rattle.joints.proofs.WordLists.{Fit, length-wordBytes, words-wordBytes}
+use Rattle.joints.specs.Reading.{recordOf, recordsTaken, listsRead}
+use Rattle.fields.proofs.WordLists.{Fit, length-wordBytes, words-wordBytes}
 use Rattle.joints.proofs.Finding.{field-part, bytes-some, limits-absent, limits-taken}
 use Rattle.joints.proofs.Laying.{pointer-lt, length-header}
 use Rattle.joints.proofs.Lists.{read-found}
@@ -94,8 +94,8 @@ module _ {L : Type 0} (slots : L → List ℕ) (k : ℕ) where
       (room : ℕ) (ls : List L) (rest : List ℕ) →
       EachFits ls →
       length ls ≤ room →
-      taken room k (length ls) (wordBytes 4 (flatMap slots ls) ++ rest) ≡ done (some (map slots ls))
-  unfolding taken
+      recordsTaken room k (length ls) (wordBytes 4 (flatMap slots ls) ++ rest) ≡ done (some (map slots ls))
+  unfolding recordsTaken
   taken-back room ls rest f h =
       let w : words 4 (k * length ls) (wordBytes 4 (flatMap slots ls) ++ rest) ≡ flatMap slots ls =
       rw (← length-slots ls f) (words-wordBytes 4 (flatMap slots ls) rest (fit-slots ls f)) in

@@ -20,14 +20,14 @@ use Rattle.format.specs.Section.{Section, part, array}
 use Rattle.format.specs.Rows.{laid, cleared}
 use Rattle.format.specs.Joints.{limitRows, limits}
 use Rattle.fields.proofs.Laws.{fieldAt-stands}
-use Rattle.joints.specs.Limit.{limitWords, rowWords}
-use Rattle.joints.specs.Reading.{recordOf, FindsRecord, taken, Stage, listOf}
+use Rattle.joints.specs.Limit.{limitWords, limitRowWords}
+use Rattle.joints.specs.Reading.{recordOf, FindsRecord, recordsTaken, Stage, listOf}
 use Rattle.joints.specs.declared.read.Record.{Record}
 use Rattle.joints.specs.declared.read.Found.the-variants.{At, Refused as no-record}
 use Rattle.joints.specs.declared.read.Step.{Step}
 use Rattle.joints.specs.declared.read.Step.the-variants.{Done, Refused as stopped}
-use Rattle.joints.specs.declared.read.Listed.{Listed}
-use Rattle.joints.proofs.WordLists.{drop-take, words-take}
+use Rattle.joints.specs.declared.read.LimitList.{LimitList}
+use Rattle.fields.proofs.WordLists.{drop-take, words-take}
 
 -- ---- the fields of a record
 
@@ -113,8 +113,8 @@ limits-empty sec room k va n h e =
 module _ (sec : Section) (room k va n : ℕ) (h : va ≡ 0 → ⊥) (l : 4 * k * n ≡ 0 → ⊥) where
   -- bytes that stand
   pub limits-taken : (half : List ℕ) (o : ℕ) → part sec va (4 * k * n) ≡ done (take (4 * k * n) (drop o half)) →
-      limits sec room k va n ≡ taken room k n (drop o half)
-  unfolding taken
+      limits sec room k va n ≡ recordsTaken room k n (drop o half)
+  unfolding recordsTaken
   limits-taken half o e =
       let m : 4 * k * n ≡ 4 * (k * n) = mul-assoc 4 k n in
       limits-stand sec room k va n h
@@ -169,25 +169,25 @@ module _ (least greatest slots n : ℕ) (s : List ℕ) where
       {t : List ℕ} →
       t ≡ cleared (length t) →
       length t / (7 + slots) < n →
-      Stage (limitWords least greatest) (taken (length t / (7 + slots)) slots n s) (stopped TableTooShort) t t
-  unfolding taken
+      Stage (limitWords least greatest) (recordsTaken (length t / (7 + slots)) slots n s) (stopped TableTooShort) t t
+  unfolding recordsTaken
   taken-short {t} z h = stage-refused z TableTooShort (rw (lt-leb n (length t / (7 + slots)) h) refl)
 
   pub taken-rows :
       {t t' : List ℕ} →
       n ≤ length t / (7 + slots) →
-      t' ≡ laid (rowWords least greatest slots n s) (length t) →
-      Stage (limitWords least greatest) (taken (length t / (7 + slots)) slots n s) Done t t'
-  unfolding taken rowWords
+      t' ≡ laid (limitRowWords least greatest slots n s) (length t) →
+      Stage (limitWords least greatest) (recordsTaken (length t / (7 + slots)) slots n s) Done t t'
+  unfolding recordsTaken limitRowWords
   taken-rows {t} h e = rw (le-leb n (length t / (7 + slots)) h) (record { answer = refl; table = e })
 
 -- ---- a list by its pointer
 
-pub list-absent : {va : ℕ} (n : ℕ) → va ≡ 0 → _≡_ {A = Listed} (record { stands = false; rows = 0 }) (listOf va n)
+pub list-absent : {va : ℕ} (n : ℕ) → va ≡ 0 → _≡_ {A = LimitList} (record { stands = false; rows = 0 }) (listOf va n)
 unfolding listOf
 list-absent n e = rw e refl
 
-pub list-stands : (va n : ℕ) → (va ≡ 0 → ⊥) → _≡_ {A = Listed} (record { stands = true; rows = n }) (listOf va n)
+pub list-stands : (va n : ℕ) → (va ≡ 0 → ⊥) → _≡_ {A = LimitList} (record { stands = true; rows = n }) (listOf va n)
 unfolding listOf
 list-stands zero n h = absurd (h refl)
 list-stands (suc a) n h = refl

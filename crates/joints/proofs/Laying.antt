@@ -20,8 +20,9 @@ use Rattle.fields.proofs.Stores.{sets-append}
 use Rattle.joints.specs.declared.write.JointsWritten.{JointsWritten}
 use Rattle.joints.specs.declared.write.JointsWritten.the-variants.{Done, Refused}
 use Rattle.joints.specs.Limit.{limitSlots, recordSlots}
-use Rattle.joints.specs.Written.{rotationsOf, translationsOf, tableWritten, meantWritten, sizeOf, leftIn}
-use Rattle.joints.proofs.WordLists.{length-wordBytes}
+use Rattle.joints.specs.Written.{rotationsOf, translationsOf, tableWritten, meantWritten, leftIn}
+use Rattle.tables.specs.Outcome.{sizeOf}
+use Rattle.fields.proofs.WordLists.{length-wordBytes}
 use Rattle.joints.proofs.RowLists.{length-made}
 use Rattle.joints.proofs.RowLoops.{length-limitSlots}
 use Rattle.joints.proofs.BothKinds.{length-rotationsOf, length-translationsOf, rotation-records, translation-records}

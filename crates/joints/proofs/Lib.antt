@@ -1,5 +1,3 @@
-pub mod WordLists
-pub mod Runs
 pub mod Row
 pub mod RowLists
 pub mod RowLoops

@@ -20,18 +20,18 @@ use Rattle.format.specs.Rows.{laid, cleared}
 use Rattle.format.specs.Joints.{rotationLimit, rotationRow, rotationWords, translationLimit, translationRow, translationWords}
 use Rattle.format.specs.Joints.{limitRows, limits, mapped, Joints, readJoints}
 use Rattle.joints.specs.Limit.{limitWords}
-use Rattle.joints.specs.Reading.{recordOf, FindsRecord, meantFound, tableOf, Stage, listOf, listsRead, given}
+use Rattle.joints.specs.Reading.{recordOf, FindsRecord, meantRecord, tableOf, Stage, listOf, listsRead, listIf}
 use Rattle.joints.specs.Reading.{wordsOf}
-use Rattle.joints.specs.Reading.{meantStep, meantRead, rotationTable, translationTable, Reads}
+use Rattle.joints.specs.Reading.{meantStep, meantJoints, rotationTable, translationTable, ReadsJoints}
 use Rattle.joints.specs.declared.read.Record.{Record}
-use Rattle.joints.specs.declared.read.Listed.{Listed}
+use Rattle.joints.specs.declared.read.LimitList.{LimitList}
 use Rattle.joints.specs.declared.read.Found.{Found}
 use Rattle.joints.specs.declared.read.Found.the-variants.{At, Refused as no-record}
 use Rattle.joints.specs.declared.read.Step.{Step}
 use Rattle.joints.specs.declared.read.Step.the-variants.{Done, Refused as stopped}
 use Rattle.joints.specs.declared.read.JointsRead.{JointsRead}
 use Rattle.joints.specs.declared.read.JointsRead.the-variants.{Nothing, Read, Refused}
-use Rattle.joints.proofs.WordLists.{length-words}
+use Rattle.fields.proofs.WordLists.{length-words}
 use Rattle.joints.proofs.RowLoops.{length-limitWords}
 use Rattle.joints.proofs.BothKinds.{flatMap-map, rotation-words, translation-words}
 
@@ -82,7 +82,7 @@ module _ {L : Type 0} (least greatest k : ℕ) (row limit : List ℕ → L)
       (va n : ℕ) {rs : Option (List (List ℕ))} {t : List ℕ} (m : ℕ) →
       limits sec room k va n ≡ done rs →
       t ≡ laid (tableOf (limitWords least greatest) (done rs)) m →
-      given (listOf va n .stands) (map row (limitRows (7 + k) (listOf va n .rows) t)) ≡ mapped limit rs
+      listIf (listOf va n .stands) (map row (limitRows (7 + k) (listOf va n .rows) t)) ≡ mapped limit rs
   unfolding limits listOf
   list-given zero n {rs} m e f = let z : rs ≡ none = cc in rw z refl
   list-given (suc a) n {rs} {t} m e f =
@@ -147,7 +147,7 @@ module _ (sec : Section) (h : Record) {rt₀ st₀ rt : List ℕ} {r₁ : Step} 
         {x : Refusal} →
         r₁ ≡ stopped x →
         st₀ ≡ cleared (length st₀) →
-        Reads (listsRead sec (length rt₀ / 55) (length st₀ / 23) h) (Refused x) rt₀ st₀ rt st₀
+        ReadsJoints (listsRead sec (length rt₀ / 55) (length st₀ / 23) h) (Refused x) rt₀ st₀ rt st₀
     unfolding listsRead
     lists-first {x} e z =
         let g : rotationsFound sec h (length rt₀) ≡ refused (number x) = stage-stopped s₁ e in
@@ -161,7 +161,7 @@ module _ (sec : Section) (h : Record) {rt₀ st₀ rt : List ℕ} {r₁ : Step} 
             r₂ ≡ stopped x →
             rt' ≡ cleared (length rt) →
             length rt ≡ length rt₀ →
-            Reads (listsRead sec (length rt₀ / 55) (length st₀ / 23) h) (Refused x) rt₀ st₀ rt' st
+            ReadsJoints (listsRead sec (length rt₀ / 55) (length st₀ / 23) h) (Refused x) rt₀ st₀ rt' st
         unfolding listsRead
         lists-second {rt'} {x} e z l =
             let f : translationsFound sec h (length st₀) ≡ refused (number x) = stage-stopped s₂ e in
@@ -169,11 +169,11 @@ module _ (sec : Section) (h : Record) {rt₀ st₀ rt : List ℕ} {r₁ : Step} 
             (record { answer = refl; rotation = cleared-laid (length rt₀) (rw l at z); translation = rw f at (s₂ .table) })
 
         pub lists-both :
-            {a b : Listed} →
+            {a b : LimitList} →
             r₂ ≡ Done →
             a ≡ listOf (h .rotation) (h .«rotation_count») →
             b ≡ listOf (h .translation) (h .«translation_count») →
-            Reads
+            ReadsJoints
             (listsRead sec (length rt₀ / 55) (length st₀ / 23) h)
             (Read
             (record {
@@ -227,7 +227,7 @@ module _ (sec : Section) (rroom troom root : ℕ) (h : root ≡ 0 → ⊥) where
   read-found (suc a) e = rw e refl
 
   -- by what was found
-  read-answered : {y : Found} → FindsRecord sec root y → readJoints sec rroom troom root ≡ (meantFound y >>= lists)
+  read-answered : {y : Found} → FindsRecord sec root y → readJoints sec rroom troom root ≡ (meantRecord y >>= lists)
   read-answered f =
       read-found root refl
       ∙ bind-done (part sec root 52) recordOf lists
@@ -238,7 +238,7 @@ module _ (sec : Section) (rroom troom root : ℕ) (h : root ≡ 0 → ⊥) where
 
   pub read-refused :
       {y : Found} (x : Refusal) → FindsRecord sec root y → y ≡ no-record x → readJoints sec rroom troom root ≡ refused (number x)
-  read-refused x f i = read-answered f ∙ ap (λ (y : Found). meantFound y >>= lists) i
+  read-refused x f i = read-answered f ∙ ap (λ (y : Found). meantRecord y >>= lists) i
 
 pub read-nothing : (sec : Section) (rroom troom : ℕ) {root : ℕ} → root ≡ 0 → readJoints sec rroom troom root ≡ done none
 unfolding readJoints
@@ -248,12 +248,12 @@ module _ {w : Res (Option Joints)} {rt₀ st₀ rt st : List ℕ} where
   -- no rows
   reads-none :
       (r : JointsRead) →
-      meantRead r rt st ≡ w →
+      meantJoints r rt st ≡ w →
       rotationTable w ≡ [] →
       translationTable w ≡ [] →
       rt ≡ cleared (length rt₀) →
       st ≡ cleared (length st₀) →
-      Reads w r rt₀ st₀ rt st
+      ReadsJoints w r rt₀ st₀ rt st
   reads-none r e er es zr zs =
       record {
         answer = e;
@@ -261,7 +261,7 @@ module _ {w : Res (Option Joints)} {rt₀ st₀ rt st : List ℕ} where
         translation = rw es (cleared-laid (length st₀) zs);
       }
 
-  pub reads-nothing : w ≡ done none → rt ≡ cleared (length rt₀) → st ≡ cleared (length st₀) → Reads w Nothing rt₀ st₀ rt st
+  pub reads-nothing : w ≡ done none → rt ≡ cleared (length rt₀) → st ≡ cleared (length st₀) → ReadsJoints w Nothing rt₀ st₀ rt st
   reads-nothing e = reads-none Nothing (sym e) (rw e refl) (rw e refl)
 
   pub reads-refused :
@@ -269,7 +269,7 @@ module _ {w : Res (Option Joints)} {rt₀ st₀ rt st : List ℕ} where
       w ≡ refused (number x) →
       rt ≡ cleared (length rt₀) →
       st ≡ cleared (length st₀) →
-      Reads w (Refused x) rt₀ st₀ rt st
+      ReadsJoints w (Refused x) rt₀ st₀ rt st
   reads-refused x e = reads-none (Refused x) (sym e) (rw e refl) (rw e refl)
 
 -- the tables were cleared before, which keeps their lengths
@@ -280,8 +280,8 @@ pub reads-lists :
     x ≡ At h →
     length rt₁ ≡ length rt₀ →
     length st₁ ≡ length st₀ →
-    Reads (listsRead sec (length rt₁ / 55) (length st₁ / 23) h) r rt₁ st₁ rt st →
-    Reads (readJoints sec (length rt₀ / 55) (length st₀ / 23) root) r rt₀ st₀ rt st
+    ReadsJoints (listsRead sec (length rt₁ / 55) (length st₁ / 23) h) r rt₁ st₁ rt st →
+    ReadsJoints (readJoints sec (length rt₀ / 55) (length st₀ / 23) root) r rt₀ st₀ rt st
 reads-lists sec root rt₀ st₀ rt₁ st₁ n f i l m p =
     let e = read-lists sec (length rt₀ / 55) (length st₀ / 23) root n (rw i at f) in
     let q = rw (l, m) at (p .rotation) in
@@ -291,6 +291,6 @@ reads-lists sec root rt₀ st₀ rt₁ st₁ n f i l m p =
 -- the clauses of the contract
 pub promised :
     (rt₀ st₀ : List ℕ) {w : Res (Option Joints)} {r : JointsRead} {rt st : List ℕ} →
-    Reads w r rt₀ st₀ rt st →
-    (meantRead r rt st ≡ w) × ((rt ≡ laid (rotationTable w) (length rt₀)) × (st ≡ laid (translationTable w) (length st₀)))
+    ReadsJoints w r rt₀ st₀ rt st →
+    (meantJoints r rt st ≡ w) × ((rt ≡ laid (rotationTable w) (length rt₀)) × (st ≡ laid (translationTable w) (length st₀)))
 promised rt₀ st₀ p = (p .answer, (p .rotation, p .translation))

@@ -11,7 +11,7 @@ use lib.Seq.{drop-cons, drop-drop, sets, length-sets, length-take-le}
 use Rattle.format.specs.Field.{words, wordBytes}
 use Rattle.format.specs.Joints.{threeWords, threeAt}
 use Rattle.joints.specs.Limit.{limitWords, limitSlots, Shaped}
-use Rattle.joints.proofs.WordLists.{length-words, words-at, length-wordBytes, sets-within, wordBytes-sets}
+use Rattle.fields.proofs.WordLists.{length-words, words-at, length-wordBytes, sets-within, wordBytes-sets}
 
 -- ---- a run of a list by its elements
 

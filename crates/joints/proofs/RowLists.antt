@@ -10,7 +10,7 @@ use lib.ListN.{length, take, drop, replicate, length-append, length-replicate, l
 use lib.Seq.{drop-drop, sets, sets-eq, length-take-le}
 use Rattle.format.specs.Rows.{laid}
 use Rattle.format.specs.Joints.{limitRows}
-use Rattle.joints.proofs.WordLists.{sets-behind}
+use Rattle.fields.proofs.WordLists.{sets-behind}
 
 -- ---- rows of a list
 

@@ -13,8 +13,8 @@ use Rattle.format.specs.Field.{words, wordBytes}
 use Rattle.format.specs.Rows.{laid, cleared}
 use Rattle.format.specs.Joints.{limitRows}
 use Rattle.fields.proofs.Stores.{sets-append}
-use Rattle.joints.specs.Limit.{limitWords, limitSlots, rowWords, recordSlots}
-use Rattle.joints.proofs.WordLists.{drop-take, length-words, words-at, length-wordBytes, wordBytes-append}
+use Rattle.joints.specs.Limit.{limitWords, limitSlots, limitRowWords, recordSlots}
+use Rattle.fields.proofs.WordLists.{drop-take, length-words, words-at, length-wordBytes, wordBytes-append}
 use Rattle.joints.proofs.RowLists.{row-before, made-suc, length-made, sets-laid}
 
 -- ---- the sizes of a row and of a record
@@ -112,8 +112,8 @@ module _
               ∙ ap (λ (x : List ℕ). laid x (length t₀)) (ap (λ (x : List ℕ). before ++ f x) own ∙ sym (made-suc f slots i all));
         }
 
-    pub rows-all : n ≤ i → t ≡ laid (rowWords least greatest slots n (drop at s)) (length t₀)
-    unfolding rowWords
+    pub rows-all : n ≤ i → t ≡ laid (limitRowWords least greatest slots n (drop at s)) (length t₀)
+    unfolding limitRowWords
     rows-all h = let e : i ≡ n = omega (arith, r .count) in rw e at (r .is)
 
 -- ---- rows written as records

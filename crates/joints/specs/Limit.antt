@@ -18,8 +18,8 @@ limitSlots least greatest n w =
     sets (sets (set (take n (drop 7 w)) 2 (getD w 0 0)) least (threeWords (threeAt w 1))) greatest (threeWords (threeAt w 4))
 
 -- the words of the rows of n records that stand one behind the other
-unfoldable pub rowWords : ℕ → ℕ → ℕ → ℕ → List ℕ → List ℕ
-rowWords least greatest slots n s = flatMap (limitWords least greatest) (limitRows slots n (words 4 (slots * n) s))
+unfoldable pub limitRowWords : ℕ → ℕ → ℕ → ℕ → List ℕ → List ℕ
+limitRowWords least greatest slots n s = flatMap (limitWords least greatest) (limitRows slots n (words 4 (slots * n) s))
 
 -- the slots of the records of the first n rows of a table
 unfoldable pub recordSlots : ℕ → ℕ → ℕ → ℕ → List ℕ → List ℕ

@@ -22,7 +22,7 @@ use Rattle.joints.specs.declared.read.Found.{Found}
 use Rattle.joints.specs.declared.read.Found.the-variants.{At, Refused as no-record}
 use Rattle.joints.specs.declared.read.Step.{Step}
 use Rattle.joints.specs.declared.read.Step.the-variants.{Done, Refused as stopped}
-use Rattle.joints.specs.declared.read.Listed.{Listed}
+use Rattle.joints.specs.declared.read.LimitList.{LimitList}
 use Rattle.joints.specs.declared.read.JointsRead.{JointsRead}
 use Rattle.joints.specs.declared.read.JointsRead.the-variants.{Nothing, Read, Refused}
 
@@ -40,18 +40,18 @@ recordOf b =
     }
 
 -- the fields found, or document 01's number
-abbrev pub meantFound : Found → Res Record
-meantFound (At h) = done h
-meantFound (no-record r) = refused (number r)
+abbrev pub meantRecord : Found → Res Record
+meantRecord (At h) = done h
+meantRecord (no-record r) = refused (number r)
 
 pub record FindsRecord (s : Section) (root : ℕ) (r : Found) : Type 0 where
-  pub answer : meantFound r ≡ (part s root 52 >>= λ b. done (recordOf b))
+  pub answer : meantRecord r ≡ (part s root 52 >>= λ b. done (recordOf b))
 
 -- ---- one list
 
 -- n records of k slots from the start of some bytes, for a table of so many rows
-unfoldable pub taken : ℕ → ℕ → ℕ → List ℕ → Res (Option (List (List ℕ)))
-taken room k n s = do
+unfoldable pub recordsTaken : ℕ → ℕ → ℕ → List ℕ → Res (Option (List (List ℕ)))
+recordsTaken room k n s = do
   u ← need 1 (leb n room)
   done (some (limitRows k n (words 4 (k * n) s)))
 
@@ -76,7 +76,7 @@ pub record Stage (f : List ℕ → List ℕ) (g : Res (Option (List (List ℕ)))
   pub table : t ≡ laid (tableOf f g) (length t₀)
 
 -- a list by its pointer and its count
-unfoldable pub listOf : ℕ → ℕ → Listed
+unfoldable pub listOf : ℕ → ℕ → LimitList
 listOf zero n = record { stands = false; rows = 0 }
 listOf (suc a) n = record { stands = true; rows = n }
 
@@ -105,24 +105,24 @@ tableRead sys gfx root rotation translation =
     readJoints (section sys gfx) (length rotation / rotationWidth) (length translation / translationWidth) root
 
 -- a list that stands, or none
-abbrev pub given : {A : Type 0} → Bool → List A → Option (List A)
-given true l = some l
-given false l = none
+abbrev pub listIf : {A : Type 0} → Bool → List A → Option (List A)
+listIf true l = some l
+listIf false l = none
 
 -- the joints of an answer and of the two tables behind it, none, or document 01's number
-abbrev pub meantRead : JointsRead → List ℕ → List ℕ → Res (Option Joints.Joints)
-meantRead Nothing rotation translation = done none
-meantRead (Read j) rotation translation =
+abbrev pub meantJoints : JointsRead → List ℕ → List ℕ → Res (Option Joints.Joints)
+meantJoints Nothing rotation translation = done none
+meantJoints (Read j) rotation translation =
     done
     (some
     (record {
       kind = j .kind;
       rotationCount = j .«rotation_count»;
       translationCount = j .«translation_count»;
-      rotation = given (j .rotation .stands) (rotationsOf (j .rotation .rows) rotation);
-      translation = given (j .translation .stands) (translationsOf (j .translation .rows) translation);
+      rotation = listIf (j .rotation .stands) (rotationsOf (j .rotation .rows) rotation);
+      translation = listIf (j .translation .stands) (translationsOf (j .translation .rows) translation);
     }))
-meantRead (Refused r) rotation translation = refused (number r)
+meantJoints (Refused r) rotation translation = refused (number r)
 
 -- the words of the rows of a list of limits
 abbrev pub wordsOf : {A : Type 0} → (A → List ℕ) → Option (List A) → List ℕ
@@ -141,7 +141,7 @@ translationTable (done none) = []
 translationTable (done (some j)) = wordsOf translationWords (j .translation)
 
 -- what a reading of w promises
-pub record Reads (w : Res (Option Joints.Joints)) (r : JointsRead) (rt₀ st₀ rt st : List ℕ) : Type 0 where
-  pub answer : meantRead r rt st ≡ w
+pub record ReadsJoints (w : Res (Option Joints.Joints)) (r : JointsRead) (rt₀ st₀ rt st : List ℕ) : Type 0 where
+  pub answer : meantJoints r rt st ≡ w
   pub rotation : rt ≡ laid (rotationTable w) (length rt₀)
   pub translation : st ≡ laid (translationTable w) (length st₀)

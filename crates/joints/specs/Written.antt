@@ -7,6 +7,7 @@ use Rattle.format.specs.Result.{Res, refused, done, _>>=_, need}
 use Rattle.format.specs.Refusal.{number}
 use Rattle.format.specs.Joints.{RotationLimit, rotationRow, rotationWidth, TranslationLimit, translationRow, translationWidth}
 use Rattle.format.specs.Joints.{limitRows, jointsWritten}
+use Rattle.tables.specs.Outcome.{sizeOf}
 use Rattle.joints.specs.declared.write.JointsWritten.{JointsWritten}
 use Rattle.joints.specs.declared.write.JointsWritten.the-variants.{Done, Refused}
 
@@ -32,18 +33,13 @@ abbrev pub meantWritten : JointsWritten → Res ℕ
 meantWritten (Done n) = done n
 meantWritten (Refused r) = refused (number r)
 
--- how many bytes are written
-abbrev pub sizeOf : Res (List ℕ) → Res ℕ
-sizeOf (refused n) = refused n
-sizeOf (done b) = done (length b)
-
 -- what a buffer holds then: the bytes written and the rest as it was, or after a refusal all as it was
 abbrev pub leftIn : Res (List ℕ) → List ℕ → List ℕ
 leftIn (refused n) out = out
 leftIn (done b) out = b ++ drop (length b) out
 
 -- nothing is refused
-pub record Room (rotation : List ℕ) (r : ℕ) (translation : List ℕ) (t : ℕ) (out : List ℕ) : Type 0 where
+pub record LimitsRoom (rotation : List ℕ) (r : ℕ) (translation : List ℕ) (t : ℕ) (out : List ℕ) : Type 0 where
   pub few : r ≤ 65535
   pub some : t ≤ 65535
   pub rotations : 55 * r ≤ length rotation

@@ -8,16 +8,8 @@ ghost use lib.Seq.{sets};
 ghost use Rattle.format.specs.Field.{words, wordBytes};
 ghost use Rattle.format.specs.Joints.{freshSlots};
 ghost use Rattle.format.specs.Rows.{laid, cleared};
-ghost use Rattle.joints.specs.Limit.{limitWords, limitSlots, rowWords, recordSlots, Shaped};
+ghost use Rattle.joints.specs.Limit.{limitWords, limitSlots, limitRowWords, recordSlots, Shaped};
 use crate::words;
-
-// The words of a row of each kind.
-pub const ROTATION_WIDTH: usize = 55;
-
-pub const TRANSLATION_WIDTH: usize = 23;
-
-// The words of a row in front of the record's slots.
-pub const NAMED: usize = 7;
 
 // The slots of a record of each kind, and those at which its least and its greatest stand.
 pub const ROTATION_SLOTS: usize = 48;
@@ -115,9 +107,9 @@ fn load_row(
         sets (now (t .entry)) to (limitWords least greatest (words 4 slots (drop from (now (s .entry))))) ⌝ }
 {
     words::load(s, from + 8, 1, t, to);
-    words::load(s, from + 4 * least, 3, t, to + 1);
-    words::load(s, from + 4 * greatest, 3, t, to + 4);
-    words::load(s, from, slots, t, to + NAMED);
+    words::load(s, from + 4 * least, 3, t, to + format::LIMIT_LEAST);
+    words::load(s, from + 4 * greatest, 3, t, to + format::LIMIT_GREATEST);
+    words::load(s, from, slots, t, to + format::LIMIT_NAMED_WORDS);
 }
 
 // ---- a row written as a record
@@ -137,10 +129,10 @@ fn store_row(
     ensures { λ _. ⌜ now (d .exit) ≡
         sets (now (d .entry)) at (wordBytes 4 (limitSlots least greatest slots (drop from (now (t .entry))))) ⌝ }
 {
-    words::store(t, from + NAMED, slots, d, at);
+    words::store(t, from + format::LIMIT_NAMED_WORDS, slots, d, at);
     words::store(t, from, 1, d, at + 8);
-    words::store(t, from + 1, 3, d, at + 4 * least);
-    words::store(t, from + 4, 3, d, at + 4 * greatest);
+    words::store(t, from + format::LIMIT_LEAST, 3, d, at + 4 * least);
+    words::store(t, from + format::LIMIT_GREATEST, 3, d, at + 4 * greatest);
 }
 
 // ---- rows of a table
@@ -159,7 +151,7 @@ pub(crate) fn load_rows(
     requires room { ⌜ (at + 4 * (slots * n) ≤ length (now s)) × ((7 + slots) * n ≤ length (now t)) ⌝ }
     requires zero { ⌜ now t ≡ cleared (length (now t)) ⌝ }
     ensures { λ _. ⌜ now (t .exit) ≡
-        laid (rowWords least greatest slots n (drop at (now (s .entry)))) (length (now (t .entry))) ⌝ }
+        laid (limitRowWords least greatest slots n (drop at (now (s .entry)))) (length (now (t .entry))) ⌝ }
 {
     let mut from = at;
     let mut to = 0;
@@ -167,7 +159,7 @@ pub(crate) fn load_rows(
     while i < n {
         load_row(s, from, least, greatest, slots, t, to);
         from += 4 * slots;
-        to += NAMED + slots;
+        to += format::LIMIT_NAMED_WORDS + slots;
         i += 1;
     }
 }
@@ -192,7 +184,7 @@ pub(crate) fn store_rows(
     let mut i = 0;
     while i < n {
         store_row(t, from, least, greatest, slots, d, to);
-        from += NAMED + slots;
+        from += format::LIMIT_NAMED_WORDS + slots;
         to += 4 * slots;
         i += 1;
     }

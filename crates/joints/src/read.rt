@@ -7,16 +7,15 @@ ghost use Rattle.format.specs.Rows.{laid, cleared};
 ghost use Rattle.format.specs.Joints as Definitions;
 ghost use Rattle.blocks.specs.Places.{section};
 ghost use Rattle.joints.specs.Limit.{limitWords, Shaped};
-ghost use Rattle.joints.specs.Reading.{recordOf, FindsRecord, listOf, taken, Stage, listsRead, Reads};
-ghost use Rattle.joints.specs.Reading.{tableRead, meantRead, rotationTable, translationTable};
+ghost use Rattle.joints.specs.Reading.{recordOf, FindsRecord, listOf, recordsTaken, Stage, listsRead, ReadsJoints};
+ghost use Rattle.joints.specs.Reading.{tableRead, meantJoints, rotationTable, translationTable};
 use crate::limits;
-use crate::words;
 use blocks::places;
 use blocks::places::Located;
 use format::Refusal;
 
 // A list of limits.
-pub struct Listed {
+pub struct LimitList {
     // its pointer is not 0
     pub stands: bool,
     // how many limits it has: the rows of its table
@@ -28,8 +27,8 @@ pub struct Joints {
     pub kind: u32,
     pub rotation_count: u16,
     pub translation_count: u16,
-    pub rotation: Listed,
-    pub translation: Listed,
+    pub rotation: LimitList,
+    pub translation: LimitList,
 }
 
 pub enum JointsRead {
@@ -99,9 +98,9 @@ fn take_limits(
     requires bytes { ⌜ at + 4 * (slots * n) ≤ length (now s) ⌝ }
     requires zero { ⌜ now t ≡ cleared (length (now t)) ⌝ }
     ensures { λ r. ⌜ Stage (limitWords least greatest)
-        (taken (length (now (t .entry)) / (7 + slots)) slots n (drop at (now (s .entry)))) r (now (t .entry)) (now (t .exit)) ⌝ }
+        (recordsTaken (length (now (t .entry)) / (7 + slots)) slots n (drop at (now (s .entry)))) r (now (t .entry)) (now (t .exit)) ⌝ }
 {
-    if t.len() / (limits::NAMED + slots) < n {
+    if t.len() / (format::LIMIT_NAMED_WORDS + slots) < n {
         return Step::Refused(Refusal::TableTooShort);
     }
     limits::load_rows(s, at, n, least, greatest, slots, t);
@@ -141,16 +140,16 @@ fn read_limits(
 
 // ---- both lists
 
-fn list_at(va: u64, n: u16) -> Listed
+fn list_at(va: u64, n: u16) -> LimitList
     ensures { λ r. ⌜ r ≡ listOf va n ⌝ }
 {
     if va == 0 {
-        return Listed {
+        return LimitList {
             stands: false,
             rows: 0,
         };
     }
-    Listed {
+    LimitList {
         stands: true,
         rows: n as usize,
     }
@@ -165,7 +164,7 @@ fn read_lists(
 ) -> JointsRead
     requires rotation { ⌜ now rotation ≡ cleared (length (now rotation)) ⌝ }
     requires translation { ⌜ now translation ≡ cleared (length (now translation)) ⌝ }
-    ensures { λ r. ⌜ Reads
+    ensures { λ r. ⌜ ReadsJoints
         (listsRead (section (now (sys .entry)) (now (gfx .entry)))
         (length (now (rotation .entry)) / 55) (length (now (translation .entry)) / 23) h)
         r (now (rotation .entry)) (now (translation .entry)) (now (rotation .exit)) (now (translation .exit)) ⌝ }
@@ -194,7 +193,7 @@ fn read_lists(
         translation,
     );
     if let Step::Refused(r) = second {
-        words::clear(rotation);
+        tables::clear32(rotation);
         return JointsRead::Refused(r);
     }
     let rotations = list_at(h.rotation, h.rotation_count);
@@ -218,7 +217,7 @@ pub fn read(
     rotation: &mut [u32],
     translation: &mut [u32],
 ) -> JointsRead
-    ensures answer { λ r. ⌜ meantRead r (now (rotation .exit)) (now (translation .exit)) ≡
+    ensures answer { λ r. ⌜ meantJoints r (now (rotation .exit)) (now (translation .exit)) ≡
         tableRead (now (sys .entry)) (now (gfx .entry)) root (now (rotation .entry)) (now (translation .entry)) ⌝ }
     ensures rotation { λ _. ⌜ now (rotation .exit) ≡ laid
         (rotationTable
@@ -229,8 +228,8 @@ pub fn read(
         (tableRead (now (sys .entry)) (now (gfx .entry)) root (now (rotation .entry)) (now (translation .entry))))
         (length (now (translation .entry))) ⌝ }
 {
-    words::clear(rotation);
-    words::clear(translation);
+    tables::clear32(rotation);
+    tables::clear32(translation);
     if root == 0 {
         return JointsRead::Nothing;
     }

@@ -7,7 +7,8 @@ ghost use lib.Seq.{sets};
 ghost use Rattle.format.specs.Field.{wordBytes, lay};
 ghost use Rattle.format.specs.Layout as Layout;
 ghost use Rattle.format.specs.Joints.{jointsItems, jointsLayout};
-ghost use Rattle.joints.specs.Written.{rotationsOf, translationsOf, tableWritten, meantWritten, sizeOf, leftIn, Room};
+ghost use Rattle.joints.specs.Written.{rotationsOf, translationsOf, tableWritten, meantWritten, leftIn, LimitsRoom};
+ghost use Rattle.tables.specs.Outcome.{sizeOf};
 use crate::limits;
 use crate::words;
 use format::Refusal;
@@ -60,7 +61,7 @@ fn header(r: usize, t: usize) -> [u32; 16]
 }
 
 fn lay_section(rotation: &[u32], r: usize, translation: &[u32], t: usize, out: &mut [u8])
-    requires { ⌜ Room (now rotation) r (now translation) t (now out) ⌝ }
+    requires { ⌜ LimitsRoom (now rotation) r (now translation) t (now out) ⌝ }
     ensures { λ _. ⌜ now (out .exit) ≡ sets (now (out .entry)) 0
         (jointsLayout (rotationsOf r (now (rotation .entry))) (translationsOf t (now (translation .entry)))) ⌝ }
 {
@@ -109,10 +110,10 @@ pub fn write(
     if format::MOST < t {
         return JointsWritten::Refused(Refusal::TooManyLimits);
     }
-    if rotation.len() / limits::ROTATION_WIDTH < r {
+    if rotation.len() / format::ROTATION_LIMIT_WORDS < r {
         return JointsWritten::Refused(Refusal::TableTooShort);
     }
-    if translation.len() / limits::TRANSLATION_WIDTH < t {
+    if translation.len() / format::TRANSLATION_LIMIT_WORDS < t {
         return JointsWritten::Refused(Refusal::TableTooShort);
     }
     let size = format::JOINTS_SIZE

@@ -20,22 +20,22 @@ use Rattle.blocks.specs.Places.{Locates}
 use Rattle.blocks.specs.declared.places.Located.{Located}
 use Rattle.blocks.specs.declared.places.Located.the-variants.{System, Graphics, Refused as not-located}
 use Rattle.blocks.proofs.Standing.{system-stands, graphics-stands, system-part, graphics-part, refused-part}
-use Rattle.records.specs.Entry.{entryOf, entryAt, meantFields}
-use Rattle.records.specs.Header.{meantHeaded}
-use Rattle.records.specs.declared.entry.Entry.{Entry}
-use Rattle.records.specs.declared.entry.Fields.{Fields}
-use Rattle.records.specs.declared.entry.Fields.the-variants as F
-use Rattle.records.specs.declared.header.Header.{Header}
-use Rattle.records.specs.declared.header.Headed.{Headed}
-use Rattle.records.specs.declared.header.Headed.the-variants as H
-use Rattle.records.proofs.Entries.{field-part}
+use Rattle.read_records.specs.Entry.{entryIn, entryAt, meantFields}
+use Rattle.read_records.specs.Header.{meantHeaded}
+use Rattle.read_records.specs.declared.entry.Entry.{Entry}
+use Rattle.read_records.specs.declared.entry.Fields.{Fields}
+use Rattle.read_records.specs.declared.entry.Fields.the-variants as F
+use Rattle.read_records.specs.declared.header.Header.{Header}
+use Rattle.read_records.specs.declared.header.Headed.{Headed}
+use Rattle.read_records.specs.declared.header.Headed.the-variants as H
+use Rattle.read_records.proofs.Entries.{field-part}
 use Rattle.lookup.specs.Looked.{lookedOf}
 use Rattle.lookup.specs.declared.Looked.the-variants.{Found, Nothing, Refused}
 
 -- ---- the walk
 
 -- what is done with an entry's bytes is done with its fields
-by-fields : {B : Type 0} (x : Res (List ℕ)) (k : Entry → Res B) → (x >>= λ b. k (entryOf b)) ≡ (x >>= (λ b. done (entryOf b)) >>= k)
+by-fields : {B : Type 0} (x : Res (List ℕ)) (k : Entry → Res B) → (x >>= λ b. k (entryIn b)) ≡ (x >>= (λ b. done (entryIn b)) >>= k)
 by-fields (refused n) k = refl
 by-fields (done b) k = refl
 

@@ -7,10 +7,10 @@ ghost use Rattle.lookup.specs.Looked.{lookedOf};
 use blocks::places;
 use blocks::places::Located;
 use format::Refusal;
-use records::entry;
-use records::entry::Fields;
-use records::header;
-use records::header::Headed;
+use read_records::entry;
+use read_records::entry::Fields;
+use read_records::header;
+use read_records::header::Headed;
 
 // The bytes of a bucket's pointer.
 const POINTER: usize = 8;

@@ -7,12 +7,12 @@ use Rattle.format.specs.Section.{Section}
 use Rattle.format.specs.Deriving.{DeriveRoom}
 use Rattle.format.specs.Tables.{Room}
 use Rattle.format.specs.Check.{bonesRead}
-use Rattle.promises.specs.Meaning.{Lent, Sound, Accepts}
+use Rattle.promises.specs.Meaning.{Sized, Sound, Accepts}
 use Rattle.promises.proofs.Room.{room-decides}
 use Rattle.promises.proofs.Check.{accepts-reads, accepts-derived, derived-accepts}
 
 pub exact :
-    (sec : Section) (root : ℕ) (room : Room) (droom : DeriveRoom) → Lent sec root room droom →
+    (sec : Section) (root : ℕ) (room : Room) (droom : DeriveRoom) → Sized sec root room droom →
     Accepts sec room droom root ↔ Sound sec root
 exact sec root room droom lent = (
   λ a.

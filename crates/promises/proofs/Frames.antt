@@ -14,7 +14,7 @@ use Rattle.format.specs.Field.{words}
 use Rattle.format.specs.Section.{Section, Place, cursor, part, array, nameAt}
 use Rattle.format.specs.Bone.{Bone}
 use Rattle.format.specs.Matrices.{boneAt}
-use Rattle.format.specs.Tables.{Room, ListTable, tableNumber, width, rowWords, roomFor, Kind, kindNumber, sameKind}
+use Rattle.format.specs.Tables.{partLength, Room, ListTable, tableNumber, width, wordsPerRow, listRoom, Kind, kindNumber, sameKind}
 use Rattle.format.specs.Tables.{skeleton, buckets, entry, block, bone, string, list}
 use Rattle.format.specs.Tables.{Rows, rows, Pooled, Tables, addMember, wordsIn, listAt, find, put, putOver, readAs}
 use Rattle.format.specs.Records.{nameField}
@@ -53,9 +53,6 @@ chains-kept n none t u k = refl
 chains-kept n (some s) t u k = rw k
 
 -- how many rows a list has
-abbrev pub counted : Option Rows → ℕ
-counted none = 0
-counted (some s) = s .count
 
 -- only skeletons, buckets and entries are pooled
 abbrev pub Early : List Pooled → Type 0
@@ -100,14 +97,14 @@ module _ (sec : Section) (room : Room) where
 
   block-read :
       (va n : ℕ) (t u : Tables) (o : Option Rows) → Early t.pool → readBlock sec room va n t ≡ done (o, u) →
-      Kept t u × (counted o ≤ n)
+      Kept t u × (partLength o ≤ n)
   unfolding readBlock blockFrom
-  block-read zero n t u o h e = (step-kept e, subst (λ x. counted x ≤ n) (step-value e) (omega arith))
+  block-read zero n t u o h e = (step-kept e, subst (λ x. partLength x ≤ n) (step-value e) (omega arith))
   block-read (suc a) n t u o h e = gone (readAs block (suc a) t) _ (o, u) e λ r p e₁. from r p e₁
     where
       from :
           (r : Option Rows) → readAs block (suc a) t ≡ done r → blockFrom sec room (suc a) n t r ≡ done (o, u) →
-          Kept t u × (counted o ≤ n)
+          Kept t u × (partLength o ≤ n)
       from (some s) p e₁ =
           let f = as-found block (find (suc a) t.pool) s p in
           let k = eqb→eq (kindNumber (f .0 .kind)) 4 (f .2) in
@@ -117,14 +114,14 @@ module _ (sec : Section) (room : Room) where
           gone (readBones sec room n (suc a + 16) t) _ (o, u) e₂ λ t′ q₂ e₃.
           gone (put room (suc a) block (rows (length t.members) n) t′) _ (o, u) e₃ λ t″ q₃ e₄. (
             step-kept e₄ ∙ put-kept room _ t′ t″ _ q₃ ∙ bones-kept n (suc a + 16) t t′ q₂,
-            subst (λ x. counted x ≤ n) (step-value e₄) (le-refl n),
+            subst (λ x. partLength x ≤ n) (step-value e₄) (le-refl n),
           )
 
   pub bones-read :
       (va n : ℕ) (t u : Tables) (o : Option Rows) → Early t.pool → readBonesAt sec room va n t ≡ done (o, u) →
-      Kept t u × (counted o ≤ n)
+      Kept t u × (partLength o ≤ n)
   unfolding readBonesAt
-  bones-read zero n t u o h e = (step-kept e, subst (λ x. counted x ≤ n) (step-value e) (omega arith))
+  bones-read zero n t u o h e = (step-kept e, subst (λ x. partLength x ≤ n) (step-value e) (omega arith))
   bones-read (suc a) n t u o h e = gone (need 13 (leb 16 (suc a))) _ (o, u) e λ w q e₁. block-read (suc a - 16) n t u o h e₁
 
   -- ---- plain arrays
@@ -132,13 +129,13 @@ module _ (sec : Section) (room : Room) where
   store-kept : (l : ListTable) (w : List ℕ) (t u : Tables) (r : Rows) → storeList sec room l w t ≡ done (r, u) → Kept t u
   unfolding storeList
   store-kept l w t u r e =
-      gone (need 1 (leb (length (wordsIn l t.lists) + length w) (rowWords l * roomFor l room))) _ (r, u) e λ x q e₁. step-kept e₁
+      gone (need 1 (leb (length (wordsIn l t.lists) + length w) (wordsPerRow l * listRoom l room))) _ (r, u) e λ x q e₁. step-kept e₁
 
   new-kept : (l : ListTable) (va n : ℕ) (t u : Tables) (r : Rows) → readNew sec room l va n t ≡ done (r, u) → Kept t u
   unfolding readNew
   new-kept l va n t u r e =
-      gone (array sec va (width l * rowWords l * n)) _ (r, u) e λ b q e₁.
-      store-kept l (words (width l) (rowWords l * n) b) t u r e₁
+      gone (array sec va (width l * wordsPerRow l * n)) _ (r, u) e λ b q e₁.
+      store-kept l (words (width l) (wordsPerRow l * n) b) t u r e₁
 
   again-kept :
       (b : Bool) (l o : ListTable) (s : Rows) (t u : Tables) (r : Rows) → givenAgain sec room b l o s t ≡ done (r, u) → Kept t u
@@ -192,7 +189,7 @@ length-gather bs (r ∷ rs) = go (boneAt bs r) (length-gather bs rs)
     go none h = omega arith
     go (some b) h = omega arith
 
-pub length-bonesRead : (o : Option Rows) (t : Tables) → length (bonesRead o t) ≤ counted o
+pub length-bonesRead : (o : Option Rows) (t : Tables) → length (bonesRead o t) ≤ partLength o
 length-bonesRead none t = omega arith
 length-bonesRead (some s) t =
     let rs = drop (s .first) t.members in

@@ -9,7 +9,7 @@ use Rattle.format.specs.Result.{need}
 use Rattle.format.specs.Field.{words}
 use Rattle.format.specs.Section.{Section, cursor, part, array, nameAt}
 use Rattle.format.specs.Tables as T
-use Rattle.format.specs.Tables.{ListTable, inverseTable, localTable, parentsTable, childrenTable, tableNumber, width, rowWords}
+use Rattle.format.specs.Tables.{ListTable, inverseTable, localTable, parentsTable, childrenTable, tableNumber, width, wordsPerRow}
 use Rattle.format.specs.Tables.{Kind, sameKind, Rows, rows, Pooled, Tables, Room, find, readAs}
 use Rattle.format.specs.Tables.{addBone, addMember, addSkeleton, listAt}
 use Rattle.format.specs.Records.{header, boneRow, nameField}
@@ -87,7 +87,7 @@ module _ (sec : Section) (room : Room) where
   new-steady : (l : ListTable) (va n : ℕ) (t : Tables) → SteadyStep room t (λ r. readNew sec r l va n t)
   unfolding readNew
   new-steady l va n t =
-      steady-behind (array sec va (width l * rowWords l * n)) λ b e. store-steady sec l (words (width l) (rowWords l * n) b) t
+      steady-behind (array sec va (width l * wordsPerRow l * n)) λ b e. store-steady sec l (words (width l) (wordsPerRow l * n) b) t
 
   again-steady : (b : Bool) (l o : ListTable) (s : Rows) (t : Tables) → SteadyStep room t (λ r. givenAgain sec r b l o s t)
   unfolding givenAgain

@@ -13,7 +13,7 @@ use Rattle.format.specs.Result.{Res, done}
 use Rattle.format.specs.Section.{Section, Place}
 use Rattle.format.specs.Bone.{Bone, keeping}
 use Rattle.format.specs.Deriving.{EntryRow}
-use Rattle.format.specs.Tables.{ListTable, inverseTable, localTable, parentsTable, childrenTable, rowWords, roomFor, wordsIn}
+use Rattle.format.specs.Tables.{ListTable, inverseTable, localTable, parentsTable, childrenTable, wordsPerRow, listRoom, wordsIn}
 use Rattle.format.specs.Tables.{Kind, Rows, rows, Pooled, pooled, SkeletonRow, Tables, Room, find, replace, putOver, put}
 use Rattle.format.specs.Tables.{addBucket, addEntry, addBone, addMember, addSkeleton, addWords, withPool, listAt}
 use Rattle.format.specs.Records.{columnWords}
@@ -168,7 +168,7 @@ module _ (t : Tables) (n : ℕ) (r : Room) where
 -- a matrix's sixteen words are one row
 held-words :
     (l : ListTable) (w : List ℕ) (t : Tables) (r : Room) →
-    (Held t r × T (leb (length (wordsIn l t.lists) + length w) (rowWords l * roomFor l r))) ↔ Held (addWords l w t) r
+    (Held t r × T (leb (length (wordsIn l t.lists) + length w) (wordsPerRow l * listRoom l r))) ↔ Held (addWords l w t) r
 held-words inverseTable w t r = held-more refl (omega (arith, leb→le, le→leb, length-append t.lists.inverse w))
 held-words localTable w t r = held-more refl (omega (arith, leb→le, le→leb, length-append t.lists.local w))
 held-words parentsTable w t r = held-more refl (omega (arith, leb→le, le→leb, length-append t.lists.parents w))
@@ -178,7 +178,7 @@ pub store-steady :
     {room : Room} (sec : Section) (l : ListTable) (w : List ℕ) (t : Tables) → SteadyStep room t (λ r. storeList sec r l w t)
 unfolding storeList
 store-steady sec l w t =
-    steady-need (λ r. leb (length (wordsIn l t.lists) + length w) (rowWords l * roomFor l r)) λ fits.
+    steady-need (λ r. leb (length (wordsIn l t.lists) + length w) (wordsPerRow l * listRoom l r)) λ fits.
     steady-done (rows (length (wordsIn l t.lists)) (length w), addWords l w t) (held-words l w t)
 
 -- ---- rows that ask for no room here: members, skeletons, and bones changed in place

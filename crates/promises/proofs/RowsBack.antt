@@ -10,7 +10,7 @@ use Rattle.format.specs.Section.{Place}
 use Rattle.format.specs.Bone.{Bone}
 use Rattle.format.specs.Chains.{Entry, upFrom}
 use Rattle.format.specs.Matrices.{locals}
-use Rattle.format.specs.Tables.{ListTable, rowWords, rows, SkeletonRow, Pooled, Chained, Lists, Tables, tables, wordsIn}
+use Rattle.format.specs.Tables.{ListTable, wordsPerRow, rows, SkeletonRow, Pooled, Chained, Lists, Tables, tables, wordsIn}
 use Rattle.format.specs.Read.{takeColumns, keepColumns}
 use Rattle.format.specs.Layout.{NamedBone}
 use Rattle.format.specs.Check.{listRead, gather, bonesRead}
@@ -21,12 +21,12 @@ use Rattle.promises.proofs.BucketsBack.{listedOf}
 use Rattle.promises.proofs.ColumnsBack.{keptRows, columns-back, gathered}
 
 -- a list is empty where its rows are none
-none-left : (l : ListTable) (vs : List ℕ) → length vs ≡ rowWords l * 0 → [] ≡ vs
+none-left : (l : ListTable) (vs : List ℕ) → length vs ≡ wordsPerRow l * 0 → [] ≡ vs
 none-left l [] e = refl
-none-left l (v ∷ vs) e = absurd (omega (arith, e, mul-zero (rowWords l)))
+none-left l (v ∷ vs) e = absurd (omega (arith, e, mul-zero (wordsPerRow l)))
 
 pub list-read :
-    (l : ListTable) (m : ℕ) (vs : List ℕ) (t : Tables) → length vs ≡ rowWords l * m → wordsIn l t.lists ≡ vs →
+    (l : ListTable) (m : ℕ) (vs : List ℕ) (t : Tables) → length vs ≡ wordsPerRow l * m → wordsIn l t.lists ≡ vs →
     listRead l (listedOf m (rows 0 (length vs))) t ≡ vs
 list-read l zero vs t n e = none-left l vs n
 list-read l (suc m) vs t n e = ap (take (length vs)) e ∙ take-length vs

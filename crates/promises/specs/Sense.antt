@@ -16,7 +16,7 @@ use Rattle.format.specs.Program.{programRoom, programDeriveRoom}
 use Rattle.format.specs.TrialCases.{noFree}
 use Rattle.format.specs.ControlSection.{controlBytes}
 use Rattle.format.specs.Controls.{controlWith, checkWith, three}
-use Rattle.promises.specs.Meaning.{ReadsTo, Lent, Sound, Accepts, Right}
+use Rattle.promises.specs.Meaning.{ReadsTo, Sized, Sound, Accepts, Right}
 
 -- ---- parts of a reading
 
@@ -30,8 +30,8 @@ tablesIn (done (o, t)) = t
 tablesIn (refused n) = noRows
 
 -- a section with bytes edited reads
-abbrev pub Reads : List (ℕ × ℕ) → Type 0
-Reads es =
+abbrev pub EditedReads : List (ℕ × ℕ) → Type 0
+EditedReads es =
     let r = readSkeleton (controlWith es) programRoom base noRows in
     ReadsTo (controlWith es) base (skeletonIn r) (tablesIn r)
 
@@ -46,9 +46,9 @@ abbrev pub placeIn : Bytes → Place
 placeIn [] = record { address = base; size = 0 }
 placeIn (b ∷ bs) = record { address = base; size = 2 }
 
-abbrev pub placed : List NamedBone → List (Bone Place)
-placed [] = []
-placed (b ∷ bs) = naming placeIn b ∷ placed bs
+abbrev pub placedBones : List NamedBone → List (Bone Place)
+placedBones [] = []
+placedBones (b ∷ bs) = naming placeIn b ∷ placedBones bs
 
 -- ---- the witnesses
 
@@ -56,17 +56,17 @@ pub record Sense : Type 0 where
   -- Exact: a section of three bones is accepted, and sound, with tables that hold its reading and its deriving
   pub accepted : Accepts (controlWith []) programRoom programDeriveRoom base
   pub sound : Sound (controlWith []) base
-  pub lent : Lent (controlWith []) base programRoom programDeriveRoom
+  pub lent : Sized (controlWith []) base programRoom programDeriveRoom
   -- sections that read and are refused: a chain cut, a wrong parent, child, inverse word, local word
-  pub cut : Reads ((216, 0) ∷ (219, 0) ∷ []) × (checkWith ((216, 0) ∷ (219, 0) ∷ []) ≡ refused 21)
-  pub parent : Reads ((914, 1) ∷ []) × (checkWith ((914, 1) ∷ []) ≡ refused 22)
-  pub child : Reads ((928, 2) ∷ []) × (checkWith ((928, 2) ∷ []) ≡ refused 23)
-  pub inverse : Reads ((528, 13) ∷ []) × (checkWith ((528, 13) ∷ []) ≡ refused 24)
-  pub local : Reads ((720, 1) ∷ []) × (checkWith ((720, 1) ∷ []) ≡ refused 25)
+  pub cut : EditedReads ((216, 0) ∷ (219, 0) ∷ []) × (checkWith ((216, 0) ∷ (219, 0) ∷ []) ≡ refused 21)
+  pub parent : EditedReads ((914, 1) ∷ []) × (checkWith ((914, 1) ∷ []) ≡ refused 22)
+  pub child : EditedReads ((928, 2) ∷ []) × (checkWith ((928, 2) ∷ []) ≡ refused 23)
+  pub inverse : EditedReads ((528, 13) ∷ []) × (checkWith ((528, 13) ∷ []) ≡ refused 24)
+  pub local : EditedReads ((720, 1) ∷ []) × (checkWith ((720, 1) ∷ []) ≡ refused 25)
   -- the children pointer is the parents pointer: it reads, and is refused
-  pub aliased : Reads ((64, 144) ∷ []) × (checkWith ((64, 144) ∷ []) ≡ refused 23)
+  pub aliased : EditedReads ((64, 144) ∷ []) × (checkWith ((64, 144) ∷ []) ≡ refused 23)
   -- Found: tag 5 is borne by the bones at 0 and 2, tag 27 by none
   pub tagFound : (lookup (controlWith []) base 5 ≡ done (some 2)) × Right (5 ∷ 16 ∷ 5 ∷ []) 5 (done (some 2))
   pub tagNotFound : (lookup (controlWith []) base 27 ≡ done none) × Right (5 ∷ 16 ∷ 5 ∷ []) 27 (done none)
   -- Back: the writer takes the three bones, one with a name, one without, one with an empty name
-  pub taken : written lentName programDeriveRoom 944 (placed three) noFree ≡ done controlBytes
+  pub taken : written lentName programDeriveRoom 944 (placedBones three) noFree ≡ done controlBytes

@@ -24,16 +24,16 @@ use Rattle.blocks.specs.declared.pool.Stored.the-variants.{Done, Full}
 use Rattle.blocks.proofs.Storing.{after, tables-done, tables-full}
 use Rattle.read_chains.specs.Lent.{HoldsChains}
 use Rattle.read_chains.proofs.Lent.{holds-none}
-use Rattle.records.specs.Header.{meantHeader, meantHeaded}
+use Rattle.read_records.specs.Header.{meantHeader, meantHeaded}
 use Rattle.read.specs.Parts.{meantPart, listing, readRows, rowsOnly, RowsLent, RowsBy, ReadsRows}
 use Rattle.read.specs.Parts.{readPair, PairLent, PairBy, ReadsPair, KeepsPart}
-use Rattle.read.specs.Lent.{Lent, lent, roomOf, clearedAll}
+use Rattle.read.specs.Lent.{Lent, lent, readRoom, clearedAll}
 use Rattle.read.specs.Reads.{meantSkeleton, Fills}
 use Rattle.read.specs.declared.Skeleton.{Skeleton}
 use Rattle.read.specs.declared.Filled.the-variants as F
-use Rattle.records.specs.declared.header.Header.{Header}
-use Rattle.records.specs.declared.header.Headed.{Headed}
-use Rattle.records.specs.declared.header.Headed.the-variants as H
+use Rattle.read_records.specs.declared.header.Header.{Header}
+use Rattle.read_records.specs.declared.header.Headed.{Headed}
+use Rattle.read_records.specs.declared.header.Headed.the-variants as H
 use Rattle.read.specs.declared.Part.{Part}
 use Rattle.read.specs.declared.parts.Two.{Two}
 use Rattle.read.specs.declared.parts.Two.the-variants as T
@@ -113,10 +113,10 @@ zero-at : (f : Lent → List ℕ) {t : Lent} → t ≡ clearedAll t → f t ≡ 
 zero-at f z = ap f z
 
 module _ {o b e i l a c p : List ℕ} (z : lent o b e i l a c p ≡ clearedAll (lent o b e i l a c p)) where
-  rows-lent : RowsLent (roomOf (lent o b e i l a c p)) o b e p
+  rows-lent : RowsLent (readRoom (lent o b e i l a c p)) o b e p
   unfolding flatMap
   rows-lent =
-      let room = roomOf (lent o b e i l a c p) in
+      let room = readRoom (lent o b e i l a c p) in
       let zb : b ≡ cleared (length b) = zero-at (λ t. t .buckets) z in
       let ze : e ≡ cleared (length e) = zero-at (λ t. t .entries) z in
       let zp : p ≡ cleared (length p) = zero-at (λ t. t .pool) z in
@@ -153,7 +153,7 @@ module _ (o₀ b₀ e₀ i₀ l₀ a₀ c₀ p₀ : List ℕ) where
   given = lent o₀ b₀ e₀ i₀ l₀ a₀ c₀ p₀
 
   abbrev room : Room
-  room = roomOf given
+  room = readRoom given
 
   abbrev Zero : Type 0
   Zero = given ≡ clearedAll given

@@ -12,9 +12,9 @@ use lib.ListN.{length, length-append}
 use Rattle.format.specs.Result.{Res, done, need}
 use Rattle.format.specs.Field.{words}
 use Rattle.format.specs.Section.{Section, array}
-use Rattle.format.specs.Tables.{ListTable, inverseTable, localTable, parentsTable, childrenTable, tableNumber, width, rowWords}
+use Rattle.format.specs.Tables.{ListTable, inverseTable, localTable, parentsTable, childrenTable, tableNumber, width, wordsPerRow}
 use Rattle.format.specs.Tables.{Kind, skeleton, buckets, entry, block, bone, string, list, sameKind}
-use Rattle.format.specs.Tables.{Rows, rows, Pooled, pooled, Lists, Tables, Room, roomFor, noRows, withPool}
+use Rattle.format.specs.Tables.{Rows, rows, Pooled, pooled, Lists, Tables, Room, listRoom, noRows, withPool}
 use Rattle.format.specs.Tables.{wordsIn, addWords, listAt, find, put, asKind}
 use Rattle.format.specs.Read.{readBuckets, bucketsFrom, readBucketArray, storeList, readNew, readList}
 use Rattle.format.proofs.Results.{gone}
@@ -114,7 +114,7 @@ module _ (s : Section) (room : Room) (l : ListTable) (u : Tables) (no : wordsIn 
   stored-first : (w : List ℕ) (r : Rows) (v : Tables) → storeList s room l w u ≡ done (r, v) → First l r v
   unfolding storeList
   stored-first w r v e =
-      gone (need 1 (leb (length (wordsIn l u.lists) + length w) (rowWords l * roomFor l room))) _ (r, v) e λ x q e₁.
+      gone (need 1 (leb (length (wordsIn l u.lists) + length w) (wordsPerRow l * listRoom l room))) _ (r, v) e λ x q e₁.
       let a : rows (length (wordsIn l u.lists)) (length w) ≡ r = step-value e₁ in
       let b : addWords l w u ≡ v = step-tables e₁ in
       let n = length-append (wordsIn l u.lists) w in
@@ -126,7 +126,7 @@ module _ (s : Section) (room : Room) (l : ListTable) (u : Tables) (no : wordsIn 
   new-first : (va n : ℕ) (r : Rows) (v : Tables) → readNew s room l va n u ≡ done (r, v) → First l r v
   unfolding readNew
   new-first va n r v e =
-      gone (array s va (width l * rowWords l * n)) _ (r, v) e λ b q e₁. stored-first (words (width l) (rowWords l * n) b) r v e₁
+      gone (array s va (width l * wordsPerRow l * n)) _ (r, v) e λ b q e₁. stored-first (words (width l) (wordsPerRow l * n) b) r v e₁
 
   first-as : {a b : Rows} {x v : Tables} → First l a x → some a ≡ some b → x ≡ v → First l b v
   first-as {a} {b} {x} {v} f i j = let k : a ≡ b = some-rows i in rw (← k, ← j) f

@@ -118,7 +118,7 @@ module _ {sec : Section} {pointer n : ℕ} {r : Block} {b₀ b p₀ p : List ℕ
 
 -- the tables by what the list added
 list-left :
-    (sec : Section) (l : ListTable) (va n : ℕ) {o t₀ t p₀ p : List ℕ} (room : Room) (u : Tables) → lists.Lent l room u 0 t₀ o p₀ →
+    (sec : Section) (l : ListTable) (va n : ℕ) {o t₀ t p₀ p : List ℕ} (room : Room) (u : Tables) → lists.LentList l room u 0 t₀ o p₀ →
     (x : Part) {k : ℕ} (g : Gives l (room .pool) (readList sec room l va n u) (meantPart x) k t₀ t p) →
     Fits x (length (wordsIn l (g .after .lists))) → ListLeft l room u (readList sec room l va n u) x t₀ t p
 list-left sec l va n {t₀ = t₀} {t = t} {p = p} room u h x g f =

@@ -25,7 +25,7 @@ use Rattle.read_lists.proofs.Others.{bucket-array-spared, bones-at-spared}
 use Rattle.read.specs.Parts.{meantPart, Fits, ChainsLeft, ChainsBy, ReadsChains, NoBlock, BonesBy, ReadsBonesIn}
 use Rattle.read.specs.Parts.{listing, ListBy, ReadsListIn, readRows, rowsOnly, RowsLent, ReadsRows}
 use Rattle.read.specs.Parts.{readPair, PairLent, ReadsPair}
-use Rattle.records.specs.declared.header.Header.{Header}
+use Rattle.read_records.specs.declared.header.Header.{Header}
 use Rattle.read.specs.declared.Part.{Part}
 use Rattle.read.specs.declared.parts.Got.{Got}
 use Rattle.read.specs.declared.parts.Got.the-variants as G
@@ -167,7 +167,7 @@ module _
     {sec : Section} {l : ListTable} {va n : ℕ} {a₀ b₀ p₀ : List ℕ} {c : Got} {a p₁ : List ℕ}
     (m : ReadsListIn sec l va n b₀ c a₀ a p₀ p₁) (va′ n′ : ℕ)
   where
-    first-lent : {room : Room} {u : Tables} → PairLent l room u a₀ b₀ p₀ → lists.Lent l room u 0 a₀ b₀ p₀
+    first-lent : {room : Room} {u : Tables} → PairLent l room u a₀ b₀ p₀ → lists.LentList l room u 0 a₀ b₀ p₀
     first-lent g =
         record {
           pool = g .pool;
@@ -197,7 +197,7 @@ module _
         between room u g = let v = first-read i room u g in listing l (v .words) (v .pool) u
 
         second-lent :
-            (room : Room) (u : Tables) (g : PairLent l room u a₀ b₀ p₀) → lists.Lent (twin l) room (between room u g) 0 b₀ a p₁
+            (room : Room) (u : Tables) (g : PairLent l room u a₀ b₀ p₀) → lists.LentList (twin l) room (between room u g) 0 b₀ a p₁
         second-lent room u g =
             let v = first-read i room u g in
             let none : wordsIn (twin l) (longer l (v .words) u.lists) ≡ [] = twin-longer l (v .words) u.lists ∙ g .no-second in

@@ -11,8 +11,8 @@ use Rattle.format.specs.Section.{Section}
 use Rattle.format.specs.Rows.{cleared, tableWords, TableWords}
 use Rattle.format.specs.Tables.{SkeletonRow, Room, noRows, find, asKind}
 use Rattle.format.specs.Read.{Step, readNewSkeleton, skeletonFrom, readSkeleton}
-use Rattle.read.specs.Lent.{Lent, lent, roomOf, clearedAll, laidAll}
-use Rattle.read.specs.Reads.{FilledBy, Fills, meantRead, answerOf, leaves, Reads}
+use Rattle.read.specs.Lent.{Lent, lent, readRoom, clearedAll, laidAll}
+use Rattle.read.specs.Reads.{FilledBy, Fills, meantRead, answerOf, readLeaves, Reads}
 use Rattle.read.specs.declared.Skeleton.{Skeleton}
 use Rattle.read.specs.declared.Filled.{Filled}
 use Rattle.read.specs.declared.Filled.the-variants as F
@@ -35,7 +35,7 @@ module _ {a b : Lent} (s : Sizes a b) where
   same-clear : clearedAll a ≡ clearedAll b
   same-clear = simp (s .bones, s .buckets, s .entries, s .inverse, s .local, s .parents, s .children, s .pool)
 
-  same-room : roomOf a ≡ roomOf b
+  same-room : readRoom a ≡ readRoom b
   same-room = simp (s .bones, s .buckets, s .entries, s .inverse, s .local, s .parents, s .children, s .pool)
 
   same-laid : (w : TableWords) (q : List ℕ) → laidAll w q a ≡ laidAll w q b
@@ -66,11 +66,11 @@ reading-new sec room (suc a) n = refl
 
 gives :
     {g : Step (Option SkeletonRow)} (v : Step (Option SkeletonRow)) (r : SkeletonRead) (t₀ t : Lent) → g ≡ v →
-    meantRead r ≡ answerOf v → t ≡ leaves v t₀ → Reads g r t₀ t
+    meantRead r ≡ answerOf v → t ≡ readLeaves v t₀ → Reads g r t₀ t
 gives v r t₀ t e a l = rw e (record { answer = a; tables = l })
 
 module _ (sec : Section) (root : ℕ) (t₀ : Lent) where
-  pub read-none : (t : Lent) → root ≡ 0 → t ≡ clearedAll t₀ → Reads (readSkeleton sec (roomOf t₀) root noRows) Nothing t₀ t
+  pub read-none : (t : Lent) → root ≡ 0 → t ≡ clearedAll t₀ → Reads (readSkeleton sec (readRoom t₀) root noRows) Nothing t₀ t
   unfolding readSkeleton
   read-none t z e = rw z (record { answer = refl; tables = e })
 
@@ -80,10 +80,10 @@ module _ (sec : Section) (root : ℕ) (t₀ : Lent) where
       sized : Sizes t₁ t₀
       sized = rw e (sizes-clear t₀)
 
-      filled : {y : Filled} → r ≡ y → FilledBy (readNewSkeleton sec (roomOf t₀) root noRows) t₁ t₂ y
+      filled : {y : Filled} → r ≡ y → FilledBy (readNewSkeleton sec (readRoom t₀) root noRows) t₁ t₂ y
       filled {y} i =
           subst (λ (x : Room). FilledBy (readNewSkeleton sec x root noRows) t₁ t₂ y) (same-room sized)
-          (subst (λ (y : Filled). FilledBy (readNewSkeleton sec (roomOf t₁) root noRows) t₁ t₂ y) i
+          (subst (λ (y : Filled). FilledBy (readNewSkeleton sec (readRoom t₁) root noRows) t₁ t₂ y) i
           (f .fills (e ∙ sym (same-clear sized))))
 
       abbrev whole : Step SkeletonRow → Step (Option SkeletonRow)
@@ -92,21 +92,21 @@ module _ (sec : Section) (root : ℕ) (t₀ : Lent) where
       -- the fill refused, and its tables, of which only the lengths are known, were cleared
       pub read-refused :
           {x : Refusal} (t : Lent) → r ≡ F.Refused x → Sizes t₂ t₁ → t ≡ clearedAll t₂ →
-          Reads (readSkeleton sec (roomOf t₀) root noRows) (Refused x) t₀ t
+          Reads (readSkeleton sec (readRoom t₀) root noRows) (Refused x) t₀ t
       read-refused {x} t i s l =
           gives (refused (number x)) (Refused x) t₀ t
-          (reading-new sec (roomOf t₀) root n ∙ ap whole (filled i)) refl (l ∙ same-clear s ∙ same-clear sized)
+          (reading-new sec (readRoom t₀) root n ∙ ap whole (filled i)) refl (l ∙ same-clear s ∙ same-clear sized)
 
       -- the tables hold the rows, and the pool was cleared
       pub read-done :
           {x : Skeleton} (p : List ℕ) → r ≡ F.Read x → length (t₂ .pool) ≡ length (t₁ .pool) → p ≡ cleared (length (t₂ .pool)) →
-          Reads (readSkeleton sec (roomOf t₀) root noRows) (Read x) t₀
+          Reads (readSkeleton sec (readRoom t₀) root noRows) (Read x) t₀
           (lent (t₂ .bones) (t₂ .buckets) (t₂ .entries) (t₂ .inverse) (t₂ .local) (t₂ .parents) (t₂ .children) p)
       read-done {x} p i s l =
           let d = filled i in
           let q : p ≡ cleared (length (t₀ .pool)) = l ∙ ap cleared (s ∙ sized .pool) in
           gives (whole (done (_, d .u))) (Read x) t₀ _
-          (reading-new sec (roomOf t₀) root n ∙ ap whole (d .is)) refl
+          (reading-new sec (readRoom t₀) root n ∙ ap whole (d .is)) refl
           (with-pool (tableWords (d .u)) (d .tables) p ∙ same-laid sized (tableWords (d .u)) p
           ∙ ap (λ (y : List ℕ). laidAll (tableWords (d .u)) y t₀) q)
         where

@@ -22,8 +22,8 @@ lent o b e i l p c q =
     record { bones = o; buckets = b; entries = e; inverse = i; local = l; parents = p; children = c; pool = q }
 
 -- how many rows each has: a bone has 21 words, a matrix sixteen, a row of the pool four
-abbrev pub roomOf : Lent → Room
-roomOf t =
+abbrev pub readRoom : Lent → Room
+readRoom t =
     record {
       bones = length t.bones / boneWidth;
       buckets = length t.buckets;

@@ -12,17 +12,17 @@ use Rattle.format.specs.Bone.{Bone}
 use Rattle.format.specs.Chains.{upFrom}
 use Rattle.format.specs.Records as format
 use Rattle.format.specs.Rows.{laid, cleared, entryWords}
-use Rattle.format.specs.Tables.{kindNumber, block, Rows, rows, Pooled, Chained, Tables, tables, Room, noRows, find}
-use Rattle.format.specs.Tables.{ListTable, wordsIn, longer, roomFor}
+use Rattle.format.specs.Tables.{partLength, kindNumber, block, Rows, rows, Pooled, Chained, Tables, tables, Room, noRows, find}
+use Rattle.format.specs.Tables.{ListTable, wordsIn, longer, listRoom}
 use Rattle.format.specs.Read.{Step, readBucketArray, readBonesAt, readList, keepColumns}
 use Rattle.blocks.specs.Hashed.{Represents}
 use Rattle.read_chains.specs.Lent.{HoldsChains}
-use Rattle.read_bones.specs.Lent.{BonesIn, Lent, leaving, InOrder}
+use Rattle.read_bones.specs.Lent.{BonesIn, LentBones, leaving, InOrder}
 use Rattle.read_bones.specs.Bones.{Before}
 use Rattle.read_lists.specs.Lists.{twin, rowsIn, ListsStand}
 use Rattle.read_lists.specs.Reads as lists
-use Rattle.records.specs.Header.{meantHeader}
-use Rattle.records.specs.declared.header.Header.{Header}
+use Rattle.read_records.specs.Header.{meantHeader}
+use Rattle.read_records.specs.declared.header.Header.{Header}
 use Rattle.read.specs.declared.Part.{Part}
 use Rattle.read.specs.declared.Part.the-variants.{Absent, Of}
 use Rattle.read.specs.declared.parts.Got.{Got}
@@ -34,6 +34,10 @@ use Rattle.read.specs.declared.parts.Two.the-variants as T
 abbrev pub meantPart : Part → Option Rows
 meantPart Absent = none
 meantPart (Of n) = some (rows 0 n)
+
+-- how many rows it has
+abbrev pub partRows : Part → ℕ
+partRows p = partLength (meantPart p)
 
 -- a part is no longer than its table's rows or words
 abbrev pub Fits : Part → ℕ → Type 0
@@ -68,7 +72,7 @@ pub record BonesLeft (room : Room) (t : Tables) (g : Step (Option Rows)) (x : Pa
   pub bones : List (Bone Place)
   pub pool : List Pooled
   pub is : g ≡ done (meantPart x, leaving t bones (upFrom 0 (length bones)) pool)
-  pub lent : Lent room bones pool b p
+  pub lent : LentBones room bones pool b p
   pub fits : Fits x (length bones)
 
 abbrev pub BonesBy : Room → Tables → Step (Option Rows) → List ℕ → List ℕ → Got → Type 0
@@ -102,7 +106,7 @@ ListBy l room u g t₀ t p (G.Done x) = ListLeft l room u g x t₀ t p
 ListBy l room u g t₀ t p (G.Refused x) = g ≡ refused (number x)
 
 pub record ReadsListIn (sec : Section) (l : ListTable) (va n : ℕ) (o : List ℕ) (r : Got) (t₀ t p₀ p : List ℕ) : Type 0 where
-  pub reads : (room : Room) (u : Tables) → lists.Lent l room u 0 t₀ o p₀ →
+  pub reads : (room : Room) (u : Tables) → lists.LentList l room u 0 t₀ o p₀ →
       ListBy l room u (readList sec room l va n u) t₀ t p r
 
 -- ---- buckets, then bones
@@ -158,8 +162,8 @@ pub record PairLent (l : ListTable) (room : Room) (u : Tables) (a b p : List ℕ
   pub no-second : wordsIn (twin l) u.lists ≡ []
   pub zero-first : a ≡ cleared (length a)
   pub zero-second : b ≡ cleared (length b)
-  pub room-first : roomFor l room ≡ rowsIn l a
-  pub room-second : roomFor (twin l) room ≡ rowsIn (twin l) b
+  pub room-first : listRoom l room ≡ rowsIn l a
+  pub room-second : listRoom (twin l) room ≡ rowsIn (twin l) b
   pub lists : ListsStand u
 
 pub record PairLeft

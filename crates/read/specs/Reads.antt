@@ -10,9 +10,9 @@ use Rattle.format.specs.Section.{Section}
 use Rattle.format.specs.Rows.{cleared, tableWords}
 use Rattle.format.specs.Tables.{SkeletonRow, Tables, noRows}
 use Rattle.format.specs.Read.{Step, readNewSkeleton}
-use Rattle.bones.specs.Value.{meantWords4}
+use Rattle.format.specs.Words.{meantWords4}
 use Rattle.read.specs.Parts.{meantPart}
-use Rattle.read.specs.Lent.{Lent, roomOf, clearedAll, laidAll}
+use Rattle.read.specs.Lent.{Lent, readRoom, clearedAll, laidAll}
 use Rattle.read.specs.declared.Skeleton.{Skeleton}
 use Rattle.read.specs.declared.Filled.{Filled}
 use Rattle.read.specs.declared.Filled.the-variants as F
@@ -48,7 +48,7 @@ FilledBy g t₀ t (F.Read s) = FilledLeft g s t₀ t
 FilledBy g t₀ t (F.Refused x) = g ≡ refused (number x)
 
 pub record Fills (sec : Section) (root : ℕ) (r : Filled) (t₀ t : Lent) : Type 0 where
-  pub fills : t₀ ≡ clearedAll t₀ → FilledBy (readNewSkeleton sec (roomOf t₀) root noRows) t₀ t r
+  pub fills : t₀ ≡ clearedAll t₀ → FilledBy (readNewSkeleton sec (readRoom t₀) root noRows) t₀ t r
 
 -- ---- the whole
 
@@ -64,12 +64,12 @@ answerOf (refused c) = refused c
 answerOf (done (s, u)) = done s
 
 -- what a reading leaves in tables that were t₀: every table zero where nothing was read, and the pool always
-abbrev pub leaves : Step (Option SkeletonRow) → Lent → Lent
-leaves (refused c) t₀ = clearedAll t₀
-leaves (done (none, u)) t₀ = clearedAll t₀
-leaves (done (some s, u)) t₀ = laidAll (tableWords u) (cleared (length t₀.pool)) t₀
+abbrev pub readLeaves : Step (Option SkeletonRow) → Lent → Lent
+readLeaves (refused c) t₀ = clearedAll t₀
+readLeaves (done (none, u)) t₀ = clearedAll t₀
+readLeaves (done (some s, u)) t₀ = laidAll (tableWords u) (cleared (length t₀.pool)) t₀
 
 -- the reading g, with the answer r, of tables that were t₀
 pub record Reads (g : Step (Option SkeletonRow)) (r : SkeletonRead) (t₀ t : Lent) : Type 0 where
   pub answer : meantRead r ≡ answerOf g
-  pub tables : t ≡ leaves g t₀
+  pub tables : t ≡ readLeaves g t₀

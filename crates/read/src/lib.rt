@@ -3,16 +3,16 @@ ghost use mathlib.Core.Path.{_≡_};
 ghost use Rattle.format.specs.Tables.{noRows};
 ghost use Rattle.format.specs.Read.{readSkeleton};
 ghost use Rattle.blocks.specs.Places.{section};
-ghost use Rattle.read.specs.Lent.{lent, clearedAll, roomOf};
+ghost use Rattle.read.specs.Lent.{lent, clearedAll, readRoom};
 ghost use Rattle.read.specs.Reads.{Fills, Reads};
 use crate::parts::Two;
 use blocks::kinds::Kind;
 use blocks::pool;
 use blocks::pool::Stored;
-use bones::Words4;
 use format::Refusal;
-use records::header;
-use records::header::Headed;
+use format::Words4;
+use read_records::header;
+use read_records::header::Headed;
 
 mod parts; // the parts, one after another
 
@@ -174,7 +174,7 @@ pub fn read<'a>(
     pool: &mut [u64],
 ) -> SkeletonRead
     ensures tables { λ r. ⌜ Reads (readSkeleton (section (now (sys .entry)) (now (gfx .entry)))
-        (roomOf (lent (now (bones .entry)) (now (buckets .entry)) (now (entries .entry)) (now (inverse .entry))
+        (readRoom (lent (now (bones .entry)) (now (buckets .entry)) (now (entries .entry)) (now (inverse .entry))
         (now (local .entry)) (now (parents .entry)) (now (children .entry)) (now (pool .entry)))) root noRows) r
         (lent (now (bones .entry)) (now (buckets .entry)) (now (entries .entry)) (now (inverse .entry))
         (now (local .entry)) (now (parents .entry)) (now (children .entry)) (now (pool .entry)))

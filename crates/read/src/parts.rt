@@ -13,7 +13,7 @@ use read_chains::Buckets;
 use read_lists::Indices;
 use read_lists::Listed;
 use read_lists::Matrices;
-use records::header::Header;
+use read_records::header::Header;
 
 // What a part comes to.
 pub enum Got {

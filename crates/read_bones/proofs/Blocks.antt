@@ -16,7 +16,7 @@ use Rattle.format.specs.Chains.{upFrom}
 use Rattle.format.specs.Tables.{block, Rows, rows, Tables, Room, find, asKind, readAs}
 use Rattle.format.specs.Read.{Step, readBones, blockFrom, readBlock, readBonesAt}
 use Rattle.blocks.specs.Places.{spotOf, spotIn, Locates}
-use Rattle.blocks.specs.Pool.{rowOf, meantCached, FindsAs, Stores}
+use Rattle.blocks.specs.Pool.{poolRow, meantCached, FindsAs, Stores}
 use Rattle.blocks.specs.declared.places.Located.{Located}
 use Rattle.blocks.specs.declared.places.Located.the-variants.{Refused as not-located}
 use Rattle.blocks.specs.declared.pool.Cached.{Cached}
@@ -108,7 +108,7 @@ module _
           }
 
       module _
-          {u : ℕ} (i : r ≡ bones-done u) {x : Stored} {p : List ℕ} (w : Stores (rowOf (pointer - 16) block used n) x p₁ p)
+          {u : ℕ} (i : r ≡ bones-done u) {x : Stored} {p : List ℕ} (w : Stores (poolRow (pointer - 16) block used n) x p₁ p)
         where
           -- the bones read, and the store as the format makes it
           grown :
@@ -118,10 +118,10 @@ module _
 
           as-stored :
               (t : Tables) → used ≡ length t.bones → InOrder t →
-              Stores (rowOf (pointer - 16) block (length t.members) n) x p₁ p
+              Stores (poolRow (pointer - 16) block (length t.members) n) x p₁ p
           as-stored t e o =
               let k : used ≡ length t.members = e ∙ sym (ap length o ∙ length-up-from 0 (length t.bones)) in
-              subst (λ (f : ℕ). Stores (rowOf (pointer - 16) block f n) x p₁ p) k w
+              subst (λ (f : ℕ). Stores (poolRow (pointer - 16) block f n) x p₁ p) k w
 
           pub block-full : x ≡ Full → NewBlock sec pointer n used (Refused TableTooShort) b₀ b p₀ p
           unfolding blockFrom

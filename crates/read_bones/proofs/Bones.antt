@@ -24,7 +24,7 @@ use Rattle.format.specs.Read.{Step, readName, boneFrom, readBone}
 use Rattle.format.proofs.Results.{gone}
 use Rattle.fields.proofs.Laws.{fieldAt-stands}
 use Rattle.blocks.specs.Places.{standing}
-use Rattle.blocks.specs.Pool.{rowOf, meantCached, FindsAs, Stores}
+use Rattle.blocks.specs.Pool.{poolRow, meantCached, FindsAs, Stores}
 use Rattle.blocks.specs.declared.names.Named.{Named}
 use Rattle.blocks.specs.declared.names.Named.the-variants.{At as named-at, Refused as name-refused}
 use Rattle.blocks.specs.declared.pool.Cached.{Cached}
@@ -33,13 +33,13 @@ use Rattle.blocks.specs.declared.pool.Stored.{Stored}
 use Rattle.blocks.specs.declared.pool.Stored.the-variants.{Done, Full}
 use Rattle.blocks.proofs.Standing.{bytesAt, part-standing, standing-done}
 use Rattle.blocks.proofs.Storing.{after, put-fits, put-done, tables-done, tables-full}
-use Rattle.bones.specs.Row.{hasRow, putRow}
-use Rattle.bones.specs.Value.{meantBone, storedIf}
-use Rattle.bones.specs.declared.Bone.{Bone}
-use Rattle.bones.specs.declared.Stored as stored
-use Rattle.bones.specs.declared.Stored.the-variants.{Done as row-done, NoRoom}
+use Rattle.rows.specs.Row.{hasRow, putRow}
+use Rattle.rows.specs.Value.{meantBone, storedIf}
+use Rattle.rows.specs.declared.Bone.{Bone}
+use Rattle.rows.specs.declared.RowStored.{RowStored}
+use Rattle.rows.specs.declared.RowStored.the-variants.{Done as row-done, NoRoom}
 use Rattle.read_bones.specs.Lent.{leaving}
-use Rattle.read_bones.specs.Bones.{boneAt, nameStep, NameTable, PoolLeft, NameLeft, ReadsName}
+use Rattle.read_bones.specs.Bones.{boneFields, nameStep, NameTable, PoolLeft, NameLeft, ReadsName}
 use Rattle.read_bones.specs.Bones.{Before, BoneFrom, NewBone, ReadsBone}
 use Rattle.read_bones.specs.declared.bone.Row.{Row}
 use Rattle.read_bones.specs.declared.bone.Row.the-variants.{At, Refused}
@@ -67,8 +67,8 @@ part-stands s va n b e =
     (ap length (sym i) ∙ l, spot-low s va p (h .0))
 
 -- the row that 70 bytes hold
-row-of-bytes : (b : List ℕ) (n : Place) → length b ≡ 70 → boneAt b n ≡ boneRow b (placeOf (n .address) (n .size))
-unfolding boneAt orZero
+row-of-bytes : (b : List ℕ) (n : Place) → length b ≡ 70 → boneFields b n ≡ boneRow b (placeOf (n .address) (n .size))
+unfolding boneFields orZero
 row-of-bytes b n e = rw e refl
 
 -- ---- a bone that was not read before
@@ -126,7 +126,7 @@ module _
           let d = named room t at h s in
           subst (λ (y : Named). NameTable y (room .pool) at (d .after) p₁) f (d .table)
 
-      module _ {x : stored.Stored} (ex : x ≡ storedIf (hasRow b₀ used)) where
+      module _ {x : RowStored} (ex : x ≡ storedIf (hasRow b₀ used)) where
         pub bone-no-room : (b : List ℕ) → x ≡ NoRoom → BoneFrom sec bytes va used (Refused TableTooShort) b₀ b p₀ p₁
         unfolding boneFrom
         bone-no-room b g =
@@ -143,7 +143,7 @@ module _
                   };
             }
 
-        module _ (g : x ≡ row-done) {s : Stored} {p : List ℕ} (w : Stores (rowOf va bone used 1) s p₁ p) where
+        module _ (g : x ≡ row-done) {s : Stored} {p : List ℕ} (w : Stores (poolRow va bone used 1) s p₁ p) where
           room-left : (room : Room) (t : Tables) (at : ℕ) → Before room t at used b₀ p₀ → length t.bones < room .bones
           room-left room t at h =
               let l = has-row-lt b₀ used (stored-is (hasRow b₀ used) (sym ex ∙ g)) in
@@ -156,7 +156,7 @@ module _
                 reads =
                     λ room t at h st.
                     let d = named room t at h st in
-                    let w′ = subst (λ (k : ℕ). Stores (rowOf va bone k 1) s p₁ p) (h .count) w in
+                    let w′ = subst (λ (k : ℕ). Stores (poolRow va bone k 1) s p₁ p) (h .count) w in
                     record {
                       bones = t.bones;
                       pool = t.pool;
@@ -173,7 +173,7 @@ module _
                     };
               }
 
-          module _ (y : Bone) (ey : meantBone y ≡ boneAt bytes pl) {b : List ℕ} (eb : b ≡ putRow b₀ used (meantBone y)) where
+          module _ (y : Bone) (ey : meantBone y ≡ boneFields bytes pl) {b : List ℕ} (eb : b ≡ putRow b₀ used (meantBone y)) where
             pub bone-done : s ≡ Done → BoneFrom sec bytes va used (At used (used + 1)) b₀ b p₀ p
             unfolding boneFrom
             bone-done i =
@@ -184,7 +184,7 @@ module _
                       let new : format.Bone section.Place = boneRow bytes (placeOf (pl .address) (pl .size)) in
                       let q = place-held room t at h st in
                       let stands = part-stands sec va 70 bytes st in
-                      let w′ = subst (λ (k : ℕ). Stores (rowOf va bone k 1) s p₁ p) (h .count) w in
+                      let w′ = subst (λ (k : ℕ). Stores (poolRow va bone k 1) s p₁ p) (h .count) w in
                       let more : length (t.bones ++ (new ∷ [])) ≡ suc (length t.bones) = simp length-append (omega arith) in
                       let row : b ≡ putRow b₀ (length t.bones) new =
                       eb ∙ ap (λ (k : ℕ). putRow b₀ k (meantBone y)) (h .count)
@@ -212,7 +212,7 @@ module _
                               new = λ l. record { own = h .count; more = more; low = stands .1 };
                               unread =
                                   λ to l k.
-                                  unread-enter (room .pool) to (rowOf va bone (length t.bones) 1) (d .after)
+                                  unread-enter (room .pool) to (poolRow va bone (length t.bones) 1) (d .after)
                                   (put-fits w′ (q .held) i)
                                   (record { bones = λ z. k; names = λ z. absurd (omega arith) })
                                   (unread-later (q .unread) to l);

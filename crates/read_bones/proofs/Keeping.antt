@@ -14,7 +14,7 @@ use Rattle.format.specs.Tables.{rows}
 use Rattle.format.specs.Records.{columnWords}
 use Rattle.format.specs.Rows.{laid, boneWidth, boneWords}
 use Rattle.format.specs.Read.{alter, takeColumns}
-use Rattle.bones.proofs.ReadBack.{length-bone-words}
+use Rattle.rows.proofs.ReadBack.{length-bone-words}
 use Rattle.read_bones.specs.Lent.{BonesIn}
 use Rattle.read_bones.specs.Columns.{KeepsColumns}
 use Rattle.read_bones.proofs.Rows.{wordsOf, length-words-of, laid-fits}

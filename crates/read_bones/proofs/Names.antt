@@ -16,7 +16,7 @@ use Rattle.format.specs.Rows.{placeOf}
 use Rattle.format.specs.Read.{nameFrom, readName}
 use Rattle.format.proofs.Results.{gone}
 use Rattle.blocks.specs.Names.{meantPlace, meantName}
-use Rattle.blocks.specs.Pool.{rowOf, meantCached, FindsAs, Stores}
+use Rattle.blocks.specs.Pool.{poolRow, meantCached, FindsAs, Stores}
 use Rattle.blocks.specs.declared.names.Named.{Named}
 use Rattle.blocks.specs.declared.names.Named.the-variants.{At, Refused}
 use Rattle.blocks.specs.declared.pool.Cached.{Cached}
@@ -55,7 +55,7 @@ module _ (sec : Section) (va : ℕ) {n : Named} (m : meantName n ≡ nameAt sec 
       }
 
   module _
-      {pl : Place} (e : n ≡ At pl) {s : Stored} {p : List ℕ} (w : Stores (rowOf va string (pl .address) (pl .size)) s p₀ p)
+      {pl : Place} (e : n ≡ At pl) {s : Stored} {p : List ℕ} (w : Stores (poolRow va string (pl .address) (pl .size)) s p₀ p)
     where
       found : nameAt sec va ≡ done (meantPlace pl)
       found = sym m ∙ ap meantName e
@@ -90,7 +90,7 @@ module _ (sec : Section) (va : ℕ) {n : Named} (m : meantName n ≡ nameAt sec 
                       record {
                         held = put-done w h f;
                         unread =
-                            unread-enter (room .pool) at (rowOf va string (pl .address) (pl .size)) t.pool (put-fits w h f)
+                            unread-enter (room .pool) at (poolRow va string (pl .address) (pl .size)) t.pool (put-fits w h f)
                             (record { bones = λ k. absurd (omega arith); names = λ k. o }) u;
                       };
                 };

@@ -11,9 +11,9 @@ use Rattle.format.specs.Section.{Place}
 use Rattle.format.specs.Bone.{Bone}
 use Rattle.format.specs.Rows.{laid, boneWidth, boneWords}
 use Rattle.tables.proofs.Laid.{sets-laid}
-use Rattle.bones.specs.Row.{hasRow, putRow}
-use Rattle.bones.proofs.Storing.{put-row}
-use Rattle.bones.proofs.ReadBack.{length-bone-words}
+use Rattle.rows.specs.Row.{hasRow, putRow}
+use Rattle.rows.proofs.Storing.{put-row}
+use Rattle.rows.proofs.ReadBack.{length-bone-words}
 use Rattle.read_bones.specs.Lent.{BonesIn}
 
 abbrev pub wordsOf : List (Bone Place) → List ℕ

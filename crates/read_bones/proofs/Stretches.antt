@@ -12,7 +12,7 @@ use Rattle.format.specs.Bone.{Bone}
 use Rattle.format.specs.Chains.{upFrom}
 use Rattle.format.specs.Tables.{Pooled, Tables, Room, addMember}
 use Rattle.format.specs.Read.{readBone, readBones}
-use Rattle.read_bones.specs.Lent.{Lent, leaving, Unread}
+use Rattle.read_bones.specs.Lent.{LentBones, leaving, Unread}
 use Rattle.read_bones.specs.Bones.{rowStep, RowTable, RowLeft, BoneLeft, Before, ReadsBone}
 use Rattle.read_bones.specs.Blocks.{ReadsBones}
 use Rattle.read_bones.specs.declared.bone.Row.{Row}
@@ -69,7 +69,7 @@ module _ (sec : Section) (room : Room) (n at : ℕ) (t : Tables) where
 pub record Rest (sec : Section) (room : Room) (va n : ℕ) (t : Tables) (at row i : ℕ) (b p : List ℕ) : Type 0 where
   pub bones : List (Bone Place)
   pub pool : List Pooled
-  pub lent : Lent room bones pool b p
+  pub lent : LentBones room bones pool b p
   pub count : row ≡ length bones
   pub more : length bones ≡ length (t .bones) + i
   pub unread : Unread at pool

@@ -1,5 +1,5 @@
--- What reading the bones block promises: the format's `readBones` and `readBonesAt`, over whatever bones and pool the lent
--- tables hold. Nothing is said of the tables after a refusal. Definitions only.
+-- What reading the bones block promises: the format's `readBones` and `readBonesAt`, in a single reading (no bone was read before).
+-- Nothing is said of the tables after a refusal. Definitions only.
 use mathlib.Core.Path.{_≡_}
 use mathlib.Core.Option.{Option, none, some}
 use mathlib.Core.List.{List, _++_}
@@ -12,7 +12,7 @@ use Rattle.format.specs.Bone.{Bone}
 use Rattle.format.specs.Chains.{upFrom}
 use Rattle.format.specs.Tables.{kindNumber, block, Rows, rows, Pooled, Tables, Room, find}
 use Rattle.format.specs.Read.{Step, readBones, blockFrom, readBonesAt}
-use Rattle.read_bones.specs.Lent.{Lent, leaving, InOrder}
+use Rattle.read_bones.specs.Lent.{LentBones, leaving, InOrder}
 use Rattle.read_bones.specs.Bones.{Before}
 use Rattle.read_bones.specs.declared.Stretch.{Stretch}
 use Rattle.read_bones.specs.declared.Stretch.the-variants.{Done, Refused as stretch-refused}
@@ -31,7 +31,7 @@ stretchStep (stretch-refused x) t = refused (number x)
 pub record Grown
     (room : Room) (t : Tables) (n used : ℕ) (bones : List (Bone Place)) (pool : List Pooled) (b p : List ℕ) : Type 0
   where
-    pub lent : Lent room bones pool b p
+    pub lent : LentBones room bones pool b p
     pub count : used ≡ length bones
     pub more : length bones ≡ length (t .bones) + n
 
@@ -75,13 +75,13 @@ pub record BlockStands
     (room : Room) (t : Tables) (va n first size used : ℕ) (bones : List (Bone Place)) (pool : List Pooled) (b p : List ℕ) :
     Type 0
   where
-    pub lent : Lent room bones pool b p
+    pub lent : LentBones room bones pool b p
     pub count : used ≡ length bones
     pub new :
         ((x : Pooled) → find va (t .pool) ≡ some x → kindNumber (x .kind) ≡ kindNumber block → ⊥) → NewBlockRows t n first size used
 
 abbrev pub BlockTable : Block → Room → Tables → ℕ → ℕ → List (Bone Place) → List Pooled → List ℕ → List ℕ → Type 0
-BlockTable Absent room t va n bones pool b p = Lent room bones pool b p
+BlockTable Absent room t va n bones pool b p = LentBones room bones pool b p
 BlockTable (At first size used) room t va n bones pool b p = BlockStands room t va n first size used bones pool b p
 BlockTable (Refused x) room t va n bones pool b p = Unit
 

@@ -19,7 +19,7 @@ use Rattle.format.specs.declared.Place.{Place}
 use Rattle.blocks.specs.Hashed.{Represents}
 use Rattle.blocks.specs.declared.names.Named.{Named}
 use Rattle.blocks.specs.declared.names.Named.the-variants.{At as named-at, Refused as name-refused}
-use Rattle.read_bones.specs.Lent.{Lent, leaving, Unread}
+use Rattle.read_bones.specs.Lent.{LentBones, leaving, Unread}
 use Rattle.read_bones.specs.declared.bone.Row.{Row}
 use Rattle.read_bones.specs.declared.bone.Row.the-variants.{At, Refused}
 
@@ -32,8 +32,8 @@ abbrev pub wordsAt4 : List ℕ → Words4
 wordsAt4 b = words4 (fieldAt 4 b 0) (fieldAt 4 b 4) (fieldAt 4 b 8) (fieldAt 4 b 12)
 
 -- the format's `boneRow` of bytes of any number, with our place of the name
-unfoldable pub boneAt : List ℕ → Place → format.Bone section.Place
-boneAt b n =
+unfoldable pub boneFields : List ℕ → Place → format.Bone section.Place
+boneFields b n =
     record {
       rotation = wordsAt4 b;
       translation = wordsAt3 b 16;
@@ -93,7 +93,7 @@ pub record RowLeft
     (room : Room) (t : Tables) (at va row used : ℕ) (bones : List (format.Bone section.Place)) (pool : List Pooled)
     (b p : List ℕ) : Type 0
   where
-    pub lent : Lent room bones pool b p
+    pub lent : LentBones room bones pool b p
     pub count : used ≡ length bones
     pub new : at ≤ va → NewRow va row (t .bones) bones
     pub unread : (to : ℕ) → at ≤ to → va < to → Unread to pool
@@ -112,7 +112,7 @@ pub record BoneLeft (g : Step ℕ) (room : Room) (t : Tables) (at va : ℕ) (r :
 
 -- what is known of the tables before
 pub record Before (room : Room) (t : Tables) (at used : ℕ) (b p : List ℕ) : Type 0 where
-  pub lent : Lent room (t .bones) (t .pool) b p
+  pub lent : LentBones room (t .bones) (t .pool) b p
   pub count : used ≡ length (t .bones)
   pub unread : Unread at (t .pool)
 

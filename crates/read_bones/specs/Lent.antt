@@ -17,7 +17,7 @@ pub record BonesIn (b : List ℕ) (m : ℕ) (bones : List (Bone Place)) : Type 0
   pub rows : b ≡ laid (flatMap boneWords bones) (length b)
 
 -- the two tables hold the bones and the pool
-pub record Lent (room : Room) (bones : List (Bone Place)) (pool : List Pooled) (b p : List ℕ) : Type 0 where
+pub record LentBones (room : Room) (bones : List (Bone Place)) (pool : List Pooled) (b p : List ℕ) : Type 0 where
   pub rows : BonesIn b (room .bones) bones
   pub held : Represents p (room .pool) pool
 

@@ -3,9 +3,10 @@ ghost use mathlib.Core.Path.{_≡_};
 ghost use Prim.Native.Nat.{_+_, _≤_};
 ghost use Rattle.format.specs.Field.{fieldAt};
 ghost use Rattle.blocks.specs.Places.{section};
-ghost use Rattle.blocks.specs.Hashed.{Placed};
-ghost use Rattle.bones.specs.Value.{meantWords3, meantWords4, meantBone};
-ghost use Rattle.read_bones.specs.Bones.{wordsAt3, wordsAt4, boneAt, ReadsName, NewName, BoneFrom, NewBone, ReadsBone};
+ghost use Rattle.blocks.specs.Hashed.{PlacedAt};
+ghost use Rattle.rows.specs.Value.{meantBone};
+ghost use Rattle.format.specs.Words.{meantWords3, meantWords4};
+ghost use Rattle.read_bones.specs.Bones.{wordsAt3, wordsAt4, boneFields, ReadsName, NewName, BoneFrom, NewBone, ReadsBone};
 use blocks::kinds::Kind;
 use blocks::names;
 use blocks::names::Named;
@@ -13,11 +14,11 @@ use blocks::places;
 use blocks::places::Located;
 use blocks::pool;
 use blocks::pool::Cached;
-use bones::Bone;
-use bones::Words3;
-use bones::Words4;
 use format::Place;
 use format::Refusal;
+use format::Words3;
+use format::Words4;
+use rows::Bone;
 
 // What a bone comes to.
 pub enum Row {
@@ -31,7 +32,7 @@ pub enum Row {
 // The name at an address where nothing was read before: 10 and 11 for the address, 1 where the pool has no row for it. The search
 // for the address ended at row i of the pool.
 fn new_name(sys: &[u8], gfx: &[u8], va: u64, i: usize, pool: &mut [u64]) -> Named
-    requires { ⌜ Placed (now pool) va i ⌝ }
+    requires { ⌜ PlacedAt (now pool) va i ⌝ }
     ensures { λ r. ⌜ NewName (section (now (sys .entry)) (now (gfx .entry))) va r (now (pool .entry)) (now (pool .exit)) ⌝ }
 {
     let n = names::name_at(sys, gfx, va);
@@ -93,7 +94,7 @@ fn words4(b: &[u8]) -> Words4
 
 // The bone that 70 bytes hold, with its name. Its kept words are zeros: column 4 is not read yet.
 fn bone_in(b: &[u8], name: Place) -> Bone
-    ensures { λ r. ⌜ meantBone r ≡ boneAt (now (b .entry)) name ⌝ }
+    ensures { λ r. ⌜ meantBone r ≡ boneFields (now (b .entry)) name ⌝ }
 {
     Bone {
         rotation: words4(b),
@@ -132,8 +133,8 @@ fn bone_from(
     let n = read_name(sys, gfx, fields::u64_at(b, 56), pool);
     match n {
         Named::At(p) => {
-            let s = bones::put_bone(bones, used, bone_in(b, p));
-            if let bones::Stored::NoRoom = s {
+            let s = rows::put_bone(bones, used, bone_in(b, p));
+            if let rows::RowStored::NoRoom = s {
                 return Row::Refused(Refusal::TableTooShort);
             }
             match pool::put(pool, va, Kind::Bone, used as u64, 1) {

@@ -16,10 +16,10 @@ use format::Refusal;
 pub mod bone; // one bone with its name
 pub mod columns; // the kept words of the bones
 
-// The bytes of the block's header, and of a bone.
-const HEADER_SIZE: u64 = 16;
+// The bytes of the block's header, and of a bone, as parts of an address.
+const HEADER_SIZE: u64 = format::BLOCK_HEADER_SIZE as u64;
 
-const BONE_SIZE: u64 = 80;
+const BONE_SIZE: u64 = format::BONE_SIZE as u64;
 
 // What the bones block comes to.
 pub enum Block {

@@ -25,7 +25,7 @@ use Rattle.blocks.specs.declared.pool.Stored.the-variants.{Done, Full}
 use Rattle.blocks.proofs.Standing.{bytesAt, part-standing, standing-done, system-part, graphics-part, refused-part}
 use Rattle.blocks.proofs.Storing.{after, put-fits, put-done, tables-done, tables-full}
 use Rattle.read_chains.specs.Lent.{HoldsChains}
-use Rattle.read_chains.specs.Arrays.{Found, Standing, Bucketed, ReadsPointers, Arrayed, ReadsNew, ReadsBuckets}
+use Rattle.read_chains.specs.Arrays.{Found, Standing, Bucketed, ReadsPointers, Arrayed, ReadsNewArray, ReadsBuckets}
 use Rattle.read_chains.specs.declared.Array.{Array}
 use Rattle.read_chains.specs.declared.Array.the-variants as A
 use Rattle.read_chains.specs.declared.Stretch.{Stretch}
@@ -117,7 +117,7 @@ module _
     (sec : Section) (va n filled used : ℕ) {b₀ e₀ p₀ : List ℕ} {a : Array} (m : Standing sec va (8 * n) a)
   where
     -- its bytes do not stand
-    pub new-lost : {x : Refusal} → a ≡ A.Refused x → ReadsNew sec va n filled used (B.Refused x) b₀ b₀ e₀ e₀ p₀ p₀
+    pub new-lost : {x : Refusal} → a ≡ A.Refused x → ReadsNewArray sec va n filled used (B.Refused x) b₀ b₀ e₀ e₀ p₀ p₀
     unfolding bucketsFrom
     new-lost i = record { reads = λ h. rw (found m i) refl }
 
@@ -135,7 +135,7 @@ module _
             (g .reads h))
 
         -- a bucket is refused
-        pub new-refused : {x : Refusal} → r ≡ S.Refused x → ReadsNew sec va n filled used (B.Refused x) b₀ b e₀ e p₀ p
+        pub new-refused : {x : Refusal} → r ≡ S.Refused x → ReadsNewArray sec va n filled used (B.Refused x) b₀ b e₀ e p₀ p
         unfolding bucketsFrom
         new-refused j = record { reads = λ h. rw (stands m i is, bucketed j h) refl }
 
@@ -143,7 +143,7 @@ module _
             {k l : ℕ} (j : r ≡ S.Done k l) {s : Stored} {p′ : List ℕ} (w : Stores (pooled va buckets (rows filled n)) s p p′)
           where
             -- the pool is full
-            pub new-full : s ≡ Full → ReadsNew sec va n filled used (B.Refused TableTooShort) b₀ b e₀ e p₀ p′
+            pub new-full : s ≡ Full → ReadsNewArray sec va n filled used (B.Refused TableTooShort) b₀ b e₀ e p₀ p′
             unfolding bucketsFrom
             new-full d =
                 record {
@@ -154,7 +154,7 @@ module _
                       rw (stands m i is, u .is, ← h .count, full) refl;
                 }
 
-            pub new-done : s ≡ Done → ReadsNew sec va n filled used (B.At filled n k l) b₀ b e₀ e p₀ p′
+            pub new-done : s ≡ Done → ReadsNewArray sec va n filled used (B.At filled n k l) b₀ b e₀ e p₀ p′
             unfolding bucketsFrom
             new-done d =
                 record {
@@ -206,7 +206,7 @@ module _ (sec : Section) (va n filled used : ℕ) where
     buckets-other i = record { reads = λ h. asked i h }
 
     pub buckets-new :
-        {r : Buckets} {b e p : List ℕ} → x ≡ C.Nothing → ReadsNew sec va n filled used r b₀ b e₀ e p₀ p →
+        {r : Buckets} {b e p : List ℕ} → x ≡ C.Nothing → ReadsNewArray sec va n filled used r b₀ b e₀ e p₀ p →
         ReadsBuckets sec va n filled used r b₀ b e₀ e p₀ p
     buckets-new {r} {b} {e} {p} i g =
         record {

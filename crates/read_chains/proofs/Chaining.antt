@@ -12,9 +12,9 @@ use Rattle.format.specs.declared.Refusal.{Refusal}
 use Rattle.format.specs.Section.{Section}
 use Rattle.format.specs.Tables.{Tables, Room}
 use Rattle.format.specs.Read.{linkTo, readChain, headFrom, readHead}
-use Rattle.blocks.specs.Hashed.{Placed}
+use Rattle.blocks.specs.Hashed.{PlacedAt}
 use Rattle.read_chains.specs.Lent.{entryRoom, HoldsEntries, Comes}
-use Rattle.read_chains.specs.Entries.{noRow, meantLink, UnreadAt, LinksTo, ReadsEntry, Chained, ReadsChain, ReadsHead}
+use Rattle.read_chains.specs.Entries.{noRow, meantLink, UnreadAt, LinksTo, ReadsEntry, ChainRead, ReadsChain, ReadsHead}
 use Rattle.read_chains.specs.declared.chains.Link.{Link}
 use Rattle.read_chains.specs.declared.chains.Link.the-variants as L
 use Rattle.read_chains.specs.declared.chains.Step.{Step}
@@ -93,13 +93,13 @@ module _ {sec : Section} {va used at row : ℕ} {e₀ e p₀ p : List ℕ} (g : 
         }
 
     -- where the search for the next entry ended
-    pub next-placed : {a n : ℕ} → s ≡ S.Next a n → Placed p′ a n
+    pub next-placed : {a n : ℕ} → s ≡ S.Next a n → PlacedAt p′ a n
     next-placed i = stepped i .next
 
 -- ---- the head of a chain
 
 -- where the search for an unread entry ended
-pub link-placed : {p : List ℕ} {va n : ℕ} {x : Link} → LinksTo p va x → x ≡ L.Unread n → Placed p va n
+pub link-placed : {p : List ℕ} {va n : ℕ} {x : Link} → LinksTo p va x → x ≡ L.Unread n → PlacedAt p va n
 link-placed {p} {va} m i = subst (λ (y : Link). UnreadAt p va y) i (m .unread)
 
 module _ (sec : Section) {va used : ℕ} {e₀ p₀ : List ℕ} {x : Link} (m : LinksTo p₀ va x) where
@@ -131,9 +131,9 @@ module _ (sec : Section) {va used : ℕ} {e₀ p₀ : List ℕ} {x : Link} (m : 
         linked h (done none) (ap meantLink i) ∙ rw (← h .count, f) refl
 
     chained : {y : Chain} → r ≡ y → {room : Room} {t : Tables} → HoldsEntries room t used e₀ p₀ →
-        Chained room (readChain sec room (room .entries - used) va t) e p y
+        ChainRead room (readChain sec room (room .entries - used) va t) e p y
     chained {y} j {room} {t} h =
-        subst (λ (z : Chain). Chained room (readChain sec room (room .entries - used) va t) e p z) j (c .reads h)
+        subst (λ (z : Chain). ChainRead room (readChain sec room (room .entries - used) va t) e p z) j (c .reads h)
 
     pub head-new : {n k : ℕ} → r ≡ C.Done n → k ≡ used % 4294967295 + 1 → ReadsHead sec va used (H.At k n) e₀ e p₀ p
     head-new j f =

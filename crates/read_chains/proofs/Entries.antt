@@ -10,14 +10,14 @@ use Rattle.format.specs.Section.{Section}
 use Rattle.format.specs.Tables.{entry, Rows, rows, Tables, find, asKind}
 use Rattle.format.specs.Read.{linkOf, linkTo}
 use Rattle.blocks.specs.Places.{Locates}
-use Rattle.blocks.specs.Hashed.{Placed}
+use Rattle.blocks.specs.Hashed.{PlacedAt}
 use Rattle.blocks.specs.Pool.{FindsAs, meantCached}
 use Rattle.blocks.specs.declared.places.Located.{Located}
 use Rattle.blocks.specs.declared.places.Located.the-variants.{System, Graphics, Refused}
 use Rattle.blocks.specs.declared.pool.Cached.{Cached}
 use Rattle.blocks.specs.declared.pool.Cached.the-variants as C
 use Rattle.blocks.proofs.Standing.{system-part, graphics-part, refused-part}
-use Rattle.read_chains.specs.Lent.{Linked}
+use Rattle.read_chains.specs.Lent.{LinksFit}
 use Rattle.read_chains.specs.Entries.{noRow, meantLink, UnreadAt, LinksTo}
 use Rattle.read_chains.specs.declared.chains.Link.{Link}
 use Rattle.read_chains.specs.declared.chains.Link.the-variants as L
@@ -51,7 +51,7 @@ link-read (suc a) t n = refl
 
 module _ {p : List ℕ} {va : ℕ} (n : va ≡ 0 → ⊥) {x : Cached} (m : FindsAs p entry va x) where
   links-by : {y : Cached} {r : Link} → x ≡ y → UnreadAt p va r →
-      ((t : Tables) → Linked t.pool → asKind entry (find va t.pool) ≡ meantCached y →
+      ((t : Tables) → LinksFit t.pool → asKind entry (find va t.pool) ≡ meantCached y →
       meantLink r ≡ (meantCached y >>= λ r. done (linkOf r))) →
       LinksTo p va r
   links-by {y} e u f =
@@ -63,7 +63,7 @@ module _ {p : List ℕ} {va : ℕ} (n : va ≡ 0 → ⊥) {x : Cached} (m : Find
             f t l is ∙ sym (link-read va t n ∙ ap (λ (r : Res (Option Rows)). r >>= λ r. done (linkOf r)) is);
       }
 
-  pub links-unread : x ≡ C.Nothing → {i : ℕ} → Placed p va i → LinksTo p va (L.Unread i)
+  pub links-unread : x ≡ C.Nothing → {i : ℕ} → PlacedAt p va i → LinksTo p va (L.Unread i)
   links-unread e g = links-by e g λ t l is. refl
 
   pub links-read : {f c k : ℕ} → x ≡ C.At f c → k ≡ f % 4294967295 + 1 → LinksTo p va (L.To k)

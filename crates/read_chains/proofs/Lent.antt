@@ -25,7 +25,7 @@ use Rattle.blocks.proofs.Search.{eq-or-ne}
 use Rattle.blocks.proofs.Table.{represents-zero}
 use Rattle.blocks.proofs.Entering.{find-enter-same, find-enter-other}
 use Rattle.blocks.proofs.Storing.{after, put-fits, put-done}
-use Rattle.read_chains.specs.Lent.{entryRoom, Linked, HoldsEntries, HoldsChains}
+use Rattle.read_chains.specs.Lent.{entryRoom, LinksFit, HoldsEntries, HoldsChains}
 
 -- ---- the rows of an entries table
 
@@ -58,14 +58,14 @@ room-most n = room-by (ltb (n / 3) 4294967294) n refl .1
 pub link-row : {k : ℕ} (row : ℕ) → k ≡ row % 4294967295 + 1 → row < 4294967295 → k ≡ suc row
 link-row row e h = e ∙ rw (mod-eq-of-lt h) (omega arith)
 
-pub linked-none : Linked []
+pub linked-none : LinksFit []
 unfolding find asKind
 linked-none = record { fits = λ a s e. let z : _≡_ {A = ℕ} 0 1 = cc in absurd (omega arith) }
 
 -- a row entered keeps them, if it fits itself
 linked-enter :
-    (n : ℕ) (p : Pooled) {q e : List Pooled} → Linked q → enter n p q ≡ done e →
-    ((s : Rows) → asKind entry (some p) ≡ done (some s) → s .first < 4294967295) → Linked e
+    (n : ℕ) (p : Pooled) {q e : List Pooled} → LinksFit q → enter n p q ≡ done e →
+    ((s : Rows) → asKind entry (some p) ≡ done (some s) → s .first < 4294967295) → LinksFit e
 linked-enter n p {q} {e} l d fits =
     record {
       fits =
@@ -77,8 +77,8 @@ linked-enter n p {q} {e} l d fits =
     }
 
 pub linked-entry :
-    (n va row : ℕ) {q e : List Pooled} → Linked q → enter n (pooled va entry (rows row 1)) q ≡ done e → row < 4294967295 →
-    Linked e
+    (n va row : ℕ) {q e : List Pooled} → LinksFit q → enter n (pooled va entry (rows row 1)) q ≡ done e → row < 4294967295 →
+    LinksFit e
 unfolding asKind
 linked-entry n va row l d h =
     linked-enter n (pooled va entry (rows row 1)) l d λ s g.
@@ -87,8 +87,8 @@ linked-entry n va row l d h =
 
 -- a row of another kind
 pub linked-other :
-    (n va : ℕ) (k : Kind) (x : Rows) → sameKind k entry ≡ false → {q e : List Pooled} → Linked q →
-    enter n (pooled va k x) q ≡ done e → Linked e
+    (n va : ℕ) (k : Kind) (x : Rows) → sameKind k entry ≡ false → {q e : List Pooled} → LinksFit q →
+    enter n (pooled va k x) q ≡ done e → LinksFit e
 unfolding asKind
 linked-other n va k x o l d = linked-enter n (pooled va k x) l d λ s g. absurd (by (sameKind k entry) o s g)
   where
@@ -137,7 +137,7 @@ module _
     (w : Stores (pooled va entry (rows row 1)) s p₀ p) (d : s ≡ Done) (fits : row < entryRoom (length e₀))
   where
     -- the pool names the entry's row, which will be stored
-    pub linked-more : Linked (after w (h .pool))
+    pub linked-more : LinksFit (after w (h .pool))
     linked-more = linked-entry (room .pool) va row (h .linked) (put-fits w (h .pool) d) (omega (arith, room-most (length e₀)))
 
     pub holds-entry :

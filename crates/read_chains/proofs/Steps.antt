@@ -20,16 +20,16 @@ use Rattle.blocks.specs.declared.pool.Stored.{Stored}
 use Rattle.blocks.specs.declared.pool.Stored.the-variants.{Done, Full}
 use Rattle.blocks.proofs.Storing.{after, put-done, tables-done, tables-full}
 use Rattle.read_chains.specs.Lent.{entryRoom, HoldsEntries}
-use Rattle.records.specs.Entry.{entryAt, meantFields}
+use Rattle.read_records.specs.Entry.{entryAt, meantFields}
 use Rattle.read_chains.specs.Entries.{meantLink, UnreadAt, LinksTo, ReadsEntry}
-use Rattle.records.specs.declared.entry.Entry.{Entry}
-use Rattle.records.specs.declared.entry.Fields.{Fields}
-use Rattle.records.specs.declared.entry.Fields.the-variants as F
+use Rattle.read_records.specs.declared.entry.Entry.{Entry}
+use Rattle.read_records.specs.declared.entry.Fields.{Fields}
+use Rattle.read_records.specs.declared.entry.Fields.the-variants as F
 use Rattle.read_chains.specs.declared.chains.Link.{Link}
 use Rattle.read_chains.specs.declared.chains.Link.the-variants as L
 use Rattle.read_chains.specs.declared.chains.Step.the-variants as S
 use Rattle.read_chains.proofs.Lent.{room-most, link-row, linked-more, holds-entry}
-use Rattle.records.proofs.Entries.{Held, entry-held, entry-lost}
+use Rattle.read_records.proofs.Entries.{Held, entry-held, entry-lost}
 
 holding : {sec : Section} {va : ℕ} {y : Fields} {f : Entry} → meantFields y ≡ entryAt sec va → y ≡ F.At f → Held sec va f
 holding {sec} {va} {y} {f} fs a = entry-held sec va f (sym (ap meantFields a) ∙ fs)

@@ -57,7 +57,7 @@ Arrayed room g used usedEntries b e p (B.At first count n m) =
 Arrayed room g used usedEntries b e p (B.Refused x) = g ≡ refused (number x)
 
 -- an array that is yet to be read
-pub record ReadsNew (sec : Section) (va count used usedEntries : ℕ) (r : Buckets) (b₀ b e₀ e p₀ p : List ℕ) : Type 0 where
+pub record ReadsNewArray (sec : Section) (va count used usedEntries : ℕ) (r : Buckets) (b₀ b e₀ e p₀ p : List ℕ) : Type 0 where
   pub reads :
       {room : Room} {t : Tables} → HoldsChains room t used usedEntries b₀ e₀ p₀ →
       Arrayed room (bucketsFrom sec room va count t none) used usedEntries b e p r

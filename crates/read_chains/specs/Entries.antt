@@ -9,8 +9,8 @@ use Rattle.format.specs.Refusal.{number}
 use Rattle.format.specs.Section.{Section, part}
 use Rattle.format.specs.Tables.{Tables, Room}
 use Rattle.format.specs.Read.{Step, linkTo, readChain, readHead}
-use Rattle.blocks.specs.Hashed.{Represents, Placed}
-use Rattle.read_chains.specs.Lent.{Linked, HoldsEntries, Comes}
+use Rattle.blocks.specs.Hashed.{Represents, PlacedAt}
+use Rattle.read_chains.specs.Lent.{LinksFit, HoldsEntries, Comes}
 use Rattle.read_chains.specs.declared.chains.Link.{Link}
 use Rattle.read_chains.specs.declared.chains.Link.the-variants as L
 use Rattle.read_chains.specs.declared.chains.Step.{Step as Answer}
@@ -38,12 +38,12 @@ meantLink (L.Refused x) = refused (number x)
 -- the search for an entry that is yet to be read ended at the row told
 abbrev pub UnreadAt : List ℕ → ℕ → Link → Type 0
 UnreadAt p va (L.To k) = Unit {0}
-UnreadAt p va (L.Unread i) = Placed p va i
+UnreadAt p va (L.Unread i) = PlacedAt p va i
 UnreadAt p va (L.Refused x) = Unit {0}
 
 pub record LinksTo (p : List ℕ) (va : ℕ) (r : Link) : Type 0 where
   pub unread : UnreadAt p va r
-  pub links : {n : ℕ} (t : Tables) → Represents p n t.pool → Linked t.pool → meantLink r ≡ linkTo va t
+  pub links : {n : ℕ} (t : Tables) → Represents p n t.pool → LinksFit t.pool → meantLink r ≡ linkTo va t
 
 -- ---- one entry
 
@@ -56,7 +56,7 @@ Stepped sec room left g used e p (S.Refused x) = g ≡ refused (number x)
 -- the search for the next entry ended at the row told
 abbrev pub NextAt : List ℕ → Answer → Type 0
 NextAt p S.End = Unit {0}
-NextAt p (S.Next a i) = Placed p a i
+NextAt p (S.Next a i) = PlacedAt p a i
 NextAt p (S.Refused x) = Unit {0}
 
 pub record ReadsEntry (sec : Section) (va row : ℕ) (r : Answer) (e₀ e p₀ p : List ℕ) : Type 0 where
@@ -67,14 +67,14 @@ pub record ReadsEntry (sec : Section) (va row : ℕ) (r : Answer) (e₀ e p₀ p
 
 -- ---- a chain
 
-abbrev pub Chained : Room → Res Tables → List ℕ → List ℕ → Chain → Type 0
-Chained room g e p (C.Done used) = Comes (λ u. HoldsEntries room u used e p) g done
-Chained room g e p (C.Refused x) = g ≡ refused (number x)
+abbrev pub ChainRead : Room → Res Tables → List ℕ → List ℕ → Chain → Type 0
+ChainRead room g e p (C.Done used) = Comes (λ u. HoldsEntries room u used e p) g done
+ChainRead room g e p (C.Refused x) = g ≡ refused (number x)
 
 pub record ReadsChain (sec : Section) (va used : ℕ) (r : Chain) (e₀ e p₀ p : List ℕ) : Type 0 where
   pub reads :
       {room : Room} {t : Tables} → HoldsEntries room t used e₀ p₀ →
-      Chained room (readChain sec room (room .entries - used) va t) e p r
+      ChainRead room (readChain sec room (room .entries - used) va t) e p r
 
 -- ---- the link to a chain's head
 

@@ -18,13 +18,13 @@ unfoldable pub entryRoom : ℕ → ℕ
 entryRoom n = cond (ltb (n / 3) 4294967294) (n / 3) 4294967294
 
 -- the link to each entry of the pool is a 32-bit word
-pub record Linked (q : List Pooled) : Type 0 where
+pub record LinksFit (q : List Pooled) : Type 0 where
   pub fits : (a : ℕ) (s : Rows) → asKind entry (find a q) ≡ done (some s) → s .first < 4294967295
 
 -- the table e holds the entries, `used` rows of it, and p the pool
 pub record HoldsEntries (room : Room) (t : Tables) (used : ℕ) (e p : List ℕ) : Type 0 where
   pub pool : Represents p (room .pool) t.pool
-  pub linked : Linked t.pool
+  pub linked : LinksFit t.pool
   pub rows : room .entries ≡ entryRoom (length e)
   pub count : used ≡ length t.chained.entries
   pub table : e ≡ laid (flatMap entryWords t.chained.entries) (length e)

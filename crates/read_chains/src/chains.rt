@@ -8,7 +8,7 @@ ghost use lib.Seq.{sets};
 ghost use Rattle.format.specs.Result.{refused};
 ghost use Rattle.format.specs.Refusal.{number};
 ghost use Rattle.blocks.specs.Places.{section};
-ghost use Rattle.blocks.specs.Hashed.{Placed};
+ghost use Rattle.blocks.specs.Hashed.{PlacedAt};
 ghost use Rattle.read_chains.specs.Lent.{entryRoom};
 ghost use Rattle.read_chains.specs.Entries.{noRow, LinksTo};
 ghost use Rattle.read_chains.specs.Entries.{ReadsEntry, ReadsChain, ReadsHead};
@@ -18,12 +18,10 @@ use blocks::places::Located;
 use blocks::pool;
 use blocks::pool::Cached;
 use blocks::pool::Stored;
+use format::ENTRY_WORDS;
 use format::Refusal;
-use records::entry;
-use records::entry::Fields;
-
-// The words of a row of the entries table.
-pub const ENTRY_WORDS: usize = 3;
+use read_records::entry;
+use read_records::entry::Fields;
 
 // The most rows of an entries table that are used: the link to the row behind the last is a 32-bit word, too. No section has
 // more addresses than an eighth of these.
@@ -112,8 +110,8 @@ fn store(entries: &mut [u32], row: usize, tag: u32, position: u32, link: u32)
 {
     let at = ENTRY_WORDS * row;
     entries[at] = tag;
-    entries[at + 1] = position;
-    entries[at + 2] = link;
+    entries[at + format::ENTRY_POSITION] = position;
+    entries[at + format::ENTRY_LINK] = link;
 }
 
 // The entry at an address, stored in a row that is free: 10 and 11 for its bytes, 1 for its row of the pool, 12 for its link. It
@@ -127,7 +125,7 @@ fn read_entry(
     row: usize,
     pool: &mut [u64],
 ) -> Step
-    requires { ⌜ (row < entryRoom (length (now entries))) × Placed (now pool) va i ⌝ }
+    requires { ⌜ (row < entryRoom (length (now entries))) × PlacedAt (now pool) va i ⌝ }
     ensures { λ r. ⌜ ReadsEntry (section (now (sys .entry)) (now (gfx .entry))) va row r
         (now (entries .entry)) (now (entries .exit)) (now (pool .entry)) (now (pool .exit)) ⌝ }
 {
@@ -167,7 +165,7 @@ fn read_chain(
     used: usize,
     pool: &mut [u64],
 ) -> Chain
-    requires { ⌜ Placed (now pool) va i ⌝ }
+    requires { ⌜ PlacedAt (now pool) va i ⌝ }
     ensures { λ r. ⌜ ReadsChain (section (now (sys .entry)) (now (gfx .entry))) va used r
         (now (entries .entry)) (now (entries .exit)) (now (pool .entry)) (now (pool .exit)) ⌝ }
 {

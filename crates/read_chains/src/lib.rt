@@ -3,7 +3,7 @@
 // the pool. A link is 0, or one more than the row of an entry. A refusal leaves the tables as they happen to be: whoever lends
 // them clears them.
 ghost use Rattle.blocks.specs.Places.{section};
-ghost use Rattle.read_chains.specs.Arrays.{Standing, ReadsBucket, ReadsPointers, ReadsNew, ReadsBuckets};
+ghost use Rattle.read_chains.specs.Arrays.{Standing, ReadsBucket, ReadsPointers, ReadsNewArray, ReadsBuckets};
 use crate::chains::Head;
 use blocks::kinds::Kind;
 use blocks::places;
@@ -131,7 +131,7 @@ fn read_new<'a>(
     used: usize,
     pool: &mut [u64],
 ) -> Buckets
-    ensures { λ r. ⌜ ReadsNew (section (now (sys .entry)) (now (gfx .entry))) va count filled used r
+    ensures { λ r. ⌜ ReadsNewArray (section (now (sys .entry)) (now (gfx .entry))) va count filled used r
         (now (buckets .entry)) (now (buckets .exit))
         (now (entries .entry)) (now (entries .exit)) (now (pool .entry)) (now (pool .exit)) ⌝ }
 {

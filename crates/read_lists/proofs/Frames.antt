@@ -10,8 +10,8 @@ use lib.ListN.{length, length-append}
 use Rattle.format.specs.Result.{Res, done, need}
 use Rattle.format.specs.Field.{words}
 use Rattle.format.specs.Section.{Section, array}
-use Rattle.format.specs.Tables.{ListTable, inverseTable, localTable, parentsTable, childrenTable, width, rowWords, list}
-use Rattle.format.specs.Tables.{Rows, rows, Pooled, pooled, Lists, Tables, tables, Room, roomFor, withPool}
+use Rattle.format.specs.Tables.{ListTable, inverseTable, localTable, parentsTable, childrenTable, width, wordsPerRow, list}
+use Rattle.format.specs.Tables.{Rows, rows, Pooled, pooled, Lists, Tables, tables, Room, listRoom, withPool}
 use Rattle.format.specs.Tables.{wordsIn, longer, addWords, listAt, find, put}
 use Rattle.format.specs.Read.{storeList, readNew, readList}
 use Rattle.format.proofs.Results.{gone}
@@ -88,12 +88,12 @@ module _ (s : Section) (room : Room) (l : ListTable) where
   store-adds : (w : List ℕ) (t u : Tables) (r : Rows) → storeList s room l w t ≡ done (r, u) → Added l t u r
   unfolding storeList
   store-adds w t u r e =
-      gone (need 1 (leb (length (wordsIn l t.lists) + length w) (rowWords l * roomFor l room))) _ (r, u) e λ x q e₁. added w e₁
+      gone (need 1 (leb (length (wordsIn l t.lists) + length w) (wordsPerRow l * listRoom l room))) _ (r, u) e λ x q e₁. added w e₁
 
   new-adds : (va n : ℕ) (t u : Tables) (r : Rows) → readNew s room l va n t ≡ done (r, u) → Added l t u r
   unfolding readNew
   new-adds va n t u r e =
-      gone (array s va (width l * rowWords l * n)) _ (r, u) e λ b q e₁. store-adds (words (width l) (rowWords l * n) b) t u r e₁
+      gone (array s va (width l * wordsPerRow l * n)) _ (r, u) e λ b q e₁. store-adds (words (width l) (wordsPerRow l * n) b) t u r e₁
 
 -- ---- a list pooled
 

@@ -11,7 +11,7 @@ use Rattle.format.specs.declared.Refusal.{Refusal}
 use Rattle.format.specs.Tables.{ListTable, Rows, rows, Tables, wordsIn}
 use Rattle.format.specs.Read.{Step}
 use Rattle.read_lists.specs.Lists.{meantListed}
-use Rattle.read_lists.specs.Reads.{given, Left, Holds, Comes}
+use Rattle.read_lists.specs.Reads.{listGiven, ListTableLeft, HoldsList, ListComes}
 use Rattle.read_lists.specs.declared.Listed.{Listed}
 use Rattle.read_lists.specs.declared.Listed.the-variants.{Absent, At, Refused}
 use Rattle.read_lists.proofs.Reading.{both-same}
@@ -21,22 +21,22 @@ pub record Gives (l : ListTable) (n : ℕ) (g : Step (Option Rows)) (o : Option 
   pub after : Tables
   pub is : g ≡ done (o, after)
   pub size : m ≡ length (wordsIn l after.lists)
-  pub holds : Holds l n after t₀ t p
+  pub holds : HoldsList l n after t₀ t p
 
 gives-by :
     {l : ListTable} {n : ℕ} (g : Step (Option Rows)) {o : Option Rows} {m : ℕ} {t₀ t p : List ℕ} →
-    done (o, m) ≡ given l g → Left l n g t₀ t p → Gives l n g o m t₀ t p
+    done (o, m) ≡ listGiven l g → ListTableLeft l n g t₀ t p → Gives l n g o m t₀ t p
 gives-by (refused c) e h = let z : _≡_ {A = ℕ} 0 1 = cc in absurd (omega arith)
 gives-by (done (s, u)) e h =
     let q = both-same e in
     record { after = u; is = ap (λ (x : Option Rows). done (x, u)) (sym (q .0)); size = q .1; holds = h }
 
-refused-by : (l : ListTable) (g : Step (Option Rows)) {c : ℕ} → refused c ≡ given l g → g ≡ refused c
+refused-by : (l : ListTable) (g : Step (Option Rows)) {c : ℕ} → refused c ≡ listGiven l g → g ≡ refused c
 refused-by l (refused d) e = cc
 refused-by l (done (s, u)) e = let z : _≡_ {A = ℕ} 0 1 = cc in absurd (omega arith)
 
 module _
-    {l : ListTable} {n : ℕ} {g : Step (Option Rows)} {used : ℕ} {r : Listed} {t₀ t p : List ℕ} (c : Comes l n g used r t₀ t p)
+    {l : ListTable} {n : ℕ} {g : Step (Option Rows)} {used : ℕ} {r : Listed} {t₀ t p : List ℕ} (c : ListComes l n g used r t₀ t p)
   where
     pub list-refused : {x : Refusal} → r ≡ Refused x → g ≡ refused (number x)
     list-refused e = refused-by l g (sym (ap (meantListed used) e) ∙ c .answer)

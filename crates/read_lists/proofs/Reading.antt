@@ -16,18 +16,18 @@ use Rattle.format.specs.Result.{Res, refused, done, _>>=_, need}
 use Rattle.format.specs.Rows.{laid}
 use Rattle.format.specs.Field.{words}
 use Rattle.format.specs.Section.{Section, array}
-use Rattle.format.specs.Tables.{ListTable, inverseTable, localTable, parentsTable, childrenTable, width, rowWords}
-use Rattle.format.specs.Tables.{list, Rows, rows, Tables, Room, roomFor, wordsIn, longer, addWords, listAt, find, put}
+use Rattle.format.specs.Tables.{ListTable, inverseTable, localTable, parentsTable, childrenTable, width, wordsPerRow}
+use Rattle.format.specs.Tables.{list, Rows, rows, Tables, Room, listRoom, wordsIn, longer, addWords, listAt, find, put}
 use Rattle.format.specs.Read.{Step, storeList, readNew, readList}
 use Rattle.tables.proofs.Laid.{sets-laid}
-use Rattle.blocks.specs.Pool.{rowOf, Stores}
+use Rattle.blocks.specs.Pool.{poolRow, Stores}
 use Rattle.blocks.specs.declared.pool.Stored.{Stored}
 use Rattle.blocks.specs.declared.pool.Stored.the-variants.{Done, Full}
 use Rattle.blocks.proofs.Storing.{put-done, tables-done, tables-full}
 use Rattle.read_lists.specs.Lists.{matrixTable, indexTable, twin, rowsIn}
-use Rattle.read_lists.specs.Storing.{taken, Stored as StoredBy, Takes, Copies, TakesNew, ReadsNew}
+use Rattle.read_lists.specs.Storing.{takenIf, Stored as StoredBy, Takes, Copies, TakesNew, ReadsNewList}
 use Rattle.read_lists.specs.Pooling.{wayOf, Leads, listedBy, Pools, PoolsBy}
-use Rattle.read_lists.specs.Reads.{Lent, Holds, Comes, ReadsList}
+use Rattle.read_lists.specs.Reads.{LentList, HoldsList, ListComes, ReadsList}
 use Rattle.read_lists.specs.declared.Listed.{Listed}
 use Rattle.read_lists.specs.declared.Listed.the-variants.{Absent, At, Refused}
 use Rattle.read_lists.specs.declared.Matrices.{Matrices}
@@ -43,7 +43,7 @@ use Rattle.read_lists.proofs.Leading.{stands, pooling, goes, list-goes,
 
 -- the words that a table's rows have
 abbrev pub capacity : ListTable → List ℕ → ℕ
-capacity l t = rowWords l * rowsIn l t
+capacity l t = wordsPerRow l * rowsIn l t
 
 capacity-le : (l : ListTable) (t : List ℕ) → capacity l t ≤ length t
 capacity-le inverseTable t = omega arith
@@ -64,18 +64,18 @@ rows-within w t e = omega (arith, simp (length-append, length-replicate) at (ap 
 -- ---- each way, over tables that are lent
 
 module _
-    {l : ListTable} {room : Room} {u : Tables} {used : ℕ} {t₀ o p₀ : List ℕ} (s : Section) (h : Lent l room u used t₀ o p₀)
+    {l : ListTable} {room : Room} {u : Tables} {used : ℕ} {t₀ o p₀ : List ℕ} (s : Section) (h : LentList l room u used t₀ o p₀)
   where
     abbrev W : List ℕ
     W = wordsIn l u.lists
 
-    comes-again : (f c : ℕ) → Comes l (room .pool) (done (some (rows f c), u)) used (At f c used) t₀ t₀ p₀
+    comes-again : (f c : ℕ) → ListComes l (room .pool) (done (some (rows f c), u)) used (At f c used) t₀ t₀ p₀
     comes-again f c = record { answer = rw (h .size) refl; tables = record { own = h .own; pool = h .pool } }
 
     module _ (w : List ℕ) {r : Listed} {t : List ℕ} where
       store-by :
-          (b : Bool) → leb (used + length w) (capacity l t₀) ≡ b → r ≡ taken b used (length w) → StoredBy b w used t₀ t →
-          Comes l (room .pool) (stands (need 1 b >>= λ x. done (rows (length W) (length w), addWords l w u))) used r t₀ t p₀
+          (b : Bool) → leb (used + length w) (capacity l t₀) ≡ b → r ≡ takenIf b used (length w) → StoredBy b w used t₀ t →
+          ListComes l (room .pool) (stands (need 1 b >>= λ x. done (rows (length W) (length w), addWords l w u))) used r t₀ t p₀
       store-by true b e m =
           let fits : used + length w ≤ length t₀ =
           omega (arith, leb-true (used + length w) (capacity l t₀) b, capacity-le l t₀) in
@@ -93,27 +93,27 @@ module _
           }
       store-by false b e m = record { answer = rw e refl; tables = tt }
 
-      comes-stored : Takes w (capacity l t₀) used r t₀ t → Comes l (room .pool) (stands (storeList s room l w u)) used r t₀ t p₀
+      comes-stored : Takes w (capacity l t₀) used r t₀ t → ListComes l (room .pool) (stands (storeList s room l w u)) used r t₀ t p₀
       unfolding storeList
       comes-stored k =
-          let test : leb (length W + length w) (rowWords l * roomFor l room) ≡ leb (used + length w) (capacity l t₀) =
+          let test : leb (length W + length w) (wordsPerRow l * listRoom l room) ≡ leb (used + length w) (capacity l t₀) =
           rw (← h .size, h .rows) refl in
           rw test (store-by (leb (used + length w) (capacity l t₀)) refl (k .answer) (k .table))
 
     module _ {r : Listed} {t : List ℕ} where
       new-by :
           (a : Res (List ℕ)) (k m : ℕ) → TakesNew a k m (capacity l t₀) used r t₀ t →
-          Comes l (room .pool) (stands (a >>= λ b. storeList s room l (words k m b) u)) used r t₀ t p₀
+          ListComes l (room .pool) (stands (a >>= λ b. storeList s room l (words k m b) u)) used r t₀ t p₀
       new-by (refused c) k m e = record { answer = e; tables = tt }
       new-by (done b) k m e = comes-stored (words k m b) e
 
       comes-new :
-          (va n : ℕ) → ReadsNew s va (width l) (rowWords l * n) (capacity l t₀) used r t₀ t →
-          Comes l (room .pool) (stands (readNew s room l va n u)) used r t₀ t p₀
+          (va n : ℕ) → ReadsNewList s va (width l) (wordsPerRow l * n) (capacity l t₀) used r t₀ t →
+          ListComes l (room .pool) (stands (readNew s room l va n u)) used r t₀ t p₀
       unfolding readNew
       comes-new va n k =
-          rw (mul-assoc (width l) (rowWords l) n)
-          (new-by (array s va (width l * (rowWords l * n))) (width l) (rowWords l * n) (k .takes))
+          rw (mul-assoc (width l) (wordsPerRow l) n)
+          (new-by (array s va (width l * (wordsPerRow l * n))) (width l) (wordsPerRow l * n) (k .takes))
 
 -- ---- the list's row in the pool
 
@@ -125,9 +125,9 @@ both-same {a} {b} {m} {n} e =
 
 module _ {l : ListTable} {used : ℕ} {r : Listed} {t₀ t p₀ p : List ℕ} (room : Room) (va : ℕ) where
   put-by :
-      (f c z : ℕ) (v : Tables) (d : Stored) → Stores (rowOf va (list l) f c) d p₀ p → r ≡ listedBy d (At f c z) →
-      z ≡ length (wordsIn l v.lists) → Holds l (room .pool) v t₀ t p₀ →
-      Comes l (room .pool) (put room va (list l) (rows f c) v >>= λ x. done (some (rows f c), x)) used r t₀ t p
+      (f c z : ℕ) (v : Tables) (d : Stored) → Stores (poolRow va (list l) f c) d p₀ p → r ≡ listedBy d (At f c z) →
+      z ≡ length (wordsIn l v.lists) → HoldsList l (room .pool) v t₀ t p₀ →
+      ListComes l (room .pool) (put room va (list l) (rows f c) v >>= λ x. done (some (rows f c), x)) used r t₀ t p
   put-by f c z v Done w e q h =
       rw (tables-done room v va (list l) (rows f c) w (h .pool) refl)
       (record { answer = rw (e, q) refl; tables = record { own = h .own; pool = put-done w (h .pool) refl } })
@@ -135,8 +135,8 @@ module _ {l : ListTable} {used : ℕ} {r : Listed} {t₀ t p₀ p : List ℕ} (r
       rw (tables-full room v va (list l) (rows f c) w (h .pool) refl) (record { answer = rw e refl; tables = tt })
 
   pool-by :
-      (g : Step Rows) (x : Listed) → Comes l (room .pool) (stands g) used x t₀ t p₀ → PoolsBy x l va r p₀ p →
-      Comes l (room .pool) (pooling room l va g) used r t₀ t p
+      (g : Step Rows) (x : Listed) → ListComes l (room .pool) (stands g) used x t₀ t p₀ → PoolsBy x l va r p₀ p →
+      ListComes l (room .pool) (pooling room l va g) used r t₀ t p
   pool-by (refused c) (Refused y) m k = record { answer = rw (k .0) (m .answer); tables = tt }
   pool-by (refused c) (At f d z) m k = let z : _≡_ {A = ℕ} 0 1 = cc (m .answer) in absurd (omega arith)
   pool-by (refused c) Absent m k = let z : _≡_ {A = ℕ} 0 1 = cc (m .answer) in absurd (omega arith)
@@ -163,7 +163,7 @@ module _ (s : Section) (l : ListTable) (va n used : ℕ) (o : List ℕ) {t₀ p�
 
   -- the code's table stands for the list's
   module _ (z : va ≡ 0 → ⊥) {k : ListTable} (same : k ≡ l) {w : Way} (m : Leads p₀ k va w) where
-    module _ {room : Room} {u : Tables} (h : Lent l room u used t₀ o p₀) where
+    module _ {room : Room} {u : Tables} (h : LentList l room u used t₀ o p₀) where
       leads-to : wayOf l (find va u.pool) ≡ w
       leads-to = sym (rw same at (m .leads (h .pool)))
 
@@ -190,11 +190,11 @@ module _ (s : Section) (l : ListTable) (va n used : ℕ) (o : List ℕ) {t₀ p�
           }
 
       pub reads-over :
-          w ≡ Over → ReadsNew s va (width l) (rowWords l * n) (capacity l t₀) used r t₀ t → ReadsList s l va n used o r t₀ t p₀ p₀
+          w ≡ Over → ReadsNewList s va (width l) (wordsPerRow l * n) (capacity l t₀) used r t₀ t → ReadsList s l va n used o r t₀ t p₀ p₀
       reads-over e k = record { reads = λ h. rw (reads-way h Over e) (comes-new s h va n k) }
 
       pub reads-new :
-          {x : Listed} {p : List ℕ} → w ≡ New → ReadsNew s va (width l) (rowWords l * n) (capacity l t₀) used x t₀ t →
+          {x : Listed} {p : List ℕ} → w ≡ New → ReadsNewList s va (width l) (wordsPerRow l * n) (capacity l t₀) used x t₀ t →
           Pools k va x r p₀ p → ReadsList s l va n used o r t₀ t p₀ p
       reads-new {x} e d q =
           record {
@@ -208,14 +208,14 @@ module _ (s : Section) (l : ListTable) (va n used : ℕ) (o : List ℕ) {t₀ p�
 
 module _ {s : Section} {va : ℕ} (n : ℕ) {used : ℕ} {r : Listed} {t₀ t : List ℕ} where
   pub new-matrix :
-      (l : Matrices) → ReadsNew s va 4 (16 * n) (16 * (length t₀ / 16)) used r t₀ t →
-      ReadsNew s va (width (matrixTable l)) (rowWords (matrixTable l) * n) (capacity (matrixTable l) t₀) used r t₀ t
+      (l : Matrices) → ReadsNewList s va 4 (16 * n) (16 * (length t₀ / 16)) used r t₀ t →
+      ReadsNewList s va (width (matrixTable l)) (wordsPerRow (matrixTable l) * n) (capacity (matrixTable l) t₀) used r t₀ t
   new-matrix Inverse k = k
   new-matrix Local k = k
 
   pub new-index :
-      (l : Indices) → ReadsNew s va 2 n (length t₀) used r t₀ t →
-      ReadsNew s va (width (indexTable l)) (rowWords (indexTable l) * n) (capacity (indexTable l) t₀) used r t₀ t
+      (l : Indices) → ReadsNewList s va 2 n (length t₀) used r t₀ t →
+      ReadsNewList s va (width (indexTable l)) (wordsPerRow (indexTable l) * n) (capacity (indexTable l) t₀) used r t₀ t
   new-index Parents k = rw (one-mul n, one-mul (length t₀)) k
   new-index Children k = rw (one-mul n, one-mul (length t₀)) k
 

@@ -12,7 +12,7 @@ use Rattle.format.specs.Tables.{Kind, skeleton, buckets, entry, block, bone, st
 use Rattle.format.specs.declared.Refusal.{Refusal}
 use Rattle.format.specs.declared.Refusal.the-variants.{TableTooShort}
 use Rattle.blocks.specs.Kinds.{meantKind, listCode, kindCode}
-use Rattle.blocks.specs.Pool.{meantFound, rowOf, Finds, Stores}
+use Rattle.blocks.specs.Pool.{meantFound, poolRow, Finds, Stores}
 use Rattle.blocks.specs.declared.kinds.Kind as Code
 use Rattle.blocks.specs.declared.pool.Found.{Found}
 use Rattle.blocks.specs.declared.pool.Found.the-variants.{Nothing, At as found-at}
@@ -101,7 +101,7 @@ module _ (l : ListTable) (va : ℕ) {x : Listed} where
   pub pools-refused : (t : List ℕ) {c : Refusal} → x ≡ Refused c → Pools l va x (Refused c) t t
   pools-refused t e = rw e (record { pools = (refl, refl) })
 
-  module _ {f c u : ℕ} (e : x ≡ At f c u) {s : Stored} {t₀ t : List ℕ} (w : Stores (rowOf va (list l) f c) s t₀ t) where
+  module _ {f c u : ℕ} (e : x ≡ At f c u) {s : Stored} {t₀ t : List ℕ} (w : Stores (poolRow va (list l) f c) s t₀ t) where
     pub pools-full : s ≡ Full → Pools l va x (Refused TableTooShort) t₀ t
     pools-full d = rw e (record { pools = record { stored = s; stores = w; answer = rw d refl } })
 

@@ -10,7 +10,7 @@ use Rattle.format.specs.Tables.{ListTable, tableNumber, Kind, skeleton, buckets
 use Rattle.format.specs.Tables.{Rows, Pooled, find}
 use Rattle.format.specs.declared.Refusal.the-variants.{TableTooShort}
 use Rattle.blocks.specs.Hashed.{Represents}
-use Rattle.blocks.specs.Pool.{rowOf, Stores}
+use Rattle.blocks.specs.Pool.{poolRow, Stores}
 use Rattle.blocks.specs.declared.pool.Stored.{Stored}
 use Rattle.blocks.specs.declared.pool.Stored.the-variants.{Done, Full}
 use Rattle.read_lists.specs.declared.Listed.{Listed}
@@ -51,7 +51,7 @@ listedBy Full x = Refused TableTooShort
 
 pub record PutsRow (l : ListTable) (va f c u : ℕ) (r : Listed) (t₀ t : List ℕ) : Type 0 where
   pub stored : Stored
-  pub stores : Stores (rowOf va (list l) f c) stored t₀ t
+  pub stores : Stores (poolRow va (list l) f c) stored t₀ t
   pub answer : r ≡ listedBy stored (At f c u)
 
 -- only a list that stands takes a row

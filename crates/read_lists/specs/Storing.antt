@@ -32,9 +32,9 @@ pub record Arrays (s : Section) (va n : ℕ) (r : Located) : Type 0 where
 -- ---- words as new rows
 
 -- the answer for m words behind `used` others, by whether they fit
-abbrev pub taken : Bool → ℕ → ℕ → Listed
-taken true used m = At used m (used + m)
-taken false used m = Refused TableTooShort
+abbrev pub takenIf : Bool → ℕ → ℕ → Listed
+takenIf true used m = At used m (used + m)
+takenIf false used m = Refused TableTooShort
 
 -- the table then: all of them, or none
 abbrev pub Stored : Bool → List ℕ → ℕ → List ℕ → List ℕ → Type 0
@@ -43,7 +43,7 @@ Stored false w used t₀ t = t ≡ t₀
 
 -- the words w were to be stored behind `used` others, in a room of so many words
 pub record Takes (w : List ℕ) (room used : ℕ) (r : Listed) (t₀ t : List ℕ) : Type 0 where
-  pub answer : r ≡ taken (leb (used + length w) room) used (length w)
+  pub answer : r ≡ takenIf (leb (used + length w) room) used (length w)
   pub table : Stored (leb (used + length w) room) w used t₀ t
 
 -- words of the table s were to be copied; where they are not there, none is, and the answer is 1
@@ -56,5 +56,5 @@ abbrev pub TakesNew : Res (List ℕ) → ℕ → ℕ → ℕ → ℕ → Listed 
 TakesNew (refused c) k m room used r t₀ t = meantListed used r ≡ refused c
 TakesNew (done b) k m room used r t₀ t = Takes (words k m b) room used r t₀ t
 
-pub record ReadsNew (s : Section) (va k m room used : ℕ) (r : Listed) (t₀ t : List ℕ) : Type 0 where
+pub record ReadsNewList (s : Section) (va k m room used : ℕ) (r : Listed) (t₀ t : List ℕ) : Type 0 where
   pub takes : TakesNew (array s va (k * m)) k m room used r t₀ t

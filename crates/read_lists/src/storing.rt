@@ -4,19 +4,15 @@ ghost use mathlib.Core.Path.{_≡_};
 ghost use Prim.Native.Nat.{_+_, _*_, _/_, _≤_};
 ghost use lib.Dec.{ltb};
 ghost use lib.ListN.{length, drop};
-ghost use lib.Seq.{sets};
 ghost use Rattle.format.specs.Field.{words};
 ghost use Rattle.blocks.specs.Places.{section};
-ghost use Rattle.read_lists.specs.Storing.{Arrays, Takes, Copies, ReadsNew};
+ghost use Rattle.read_lists.specs.Storing.{Arrays, Takes, Copies, ReadsNewList};
 use crate::Listed;
 use blocks::places;
 use blocks::places::Located;
+use fields::runs;
+use format::MATRIX_WORDS;
 use format::Refusal;
-
-// The words of a matrix, and its bytes.
-const MATRIX_WORDS: usize = 16;
-
-const MATRIX_SIZE: usize = 64;
 
 // Where the n bytes of an array stand, all of which must: refusals 10, then 11. An empty array is not looked for.
 fn array(sys: &[u8], gfx: &[u8], va: u64, n: usize) -> Located
@@ -30,7 +26,7 @@ fn array(sys: &[u8], gfx: &[u8], va: u64, n: usize) -> Located
 
 // The list of n matrices at an address.
 pub fn new_matrices(sys: &[u8], gfx: &[u8], va: u64, n: u16, own: &mut [u32], used: usize) -> Listed
-    ensures list { λ r. ⌜ ReadsNew (section (now (sys .entry)) (now (gfx .entry))) va 4 (16 * n)
+    ensures list { λ r. ⌜ ReadsNewList (section (now (sys .entry)) (now (gfx .entry))) va 4 (16 * n)
         (16 * (length (now (own .entry)) / 16)) used r
         (now (own .entry)) (now (own .exit)) ⌝ }
 {
@@ -44,13 +40,13 @@ pub fn new_matrices(sys: &[u8], gfx: &[u8], va: u64, n: u16, own: &mut [u32], us
 
 // The list of n indices at an address.
 pub fn new_indices(sys: &[u8], gfx: &[u8], va: u64, n: u16, own: &mut [u16], used: usize) -> Listed
-    ensures list { λ r. ⌜ ReadsNew (section (now (sys .entry)) (now (gfx .entry))) va 2 n (length (now (own .entry))) used r
+    ensures list { λ r. ⌜ ReadsNewList (section (now (sys .entry)) (now (gfx .entry))) va 2 n (length (now (own .entry))) used r
         (now (own .entry)) (now (own .exit)) ⌝ }
 {
     let m = n as usize;
     match array(sys, gfx, va, 2 * m) {
-        Located::System(o) => load16(sys, o, m, own, used),
-        Located::Graphics(o) => load16(gfx, o, m, own, used),
+        Located::System(o) => load_indices(sys, o, m, own, used),
+        Located::Graphics(o) => load_indices(gfx, o, m, own, used),
         Located::Refused(r) => Listed::Refused(r),
     }
 }
@@ -64,36 +60,7 @@ fn runs_past(room: usize, at: usize, m: usize) -> bool
     room < at || room - at < m
 }
 
-// m words of 32 bits that stand in s from `at` on. Only whole matrices are rows.
-fn load32(s: &[u8], at: usize, m: usize, own: &mut [u32], used: usize) -> Listed
-    requires { ⌜ at + 4 * m ≤ length (now s) ⌝ }
-    ensures { λ r. ⌜ Takes (words 4 m (drop at (now (s .entry)))) (16 * (length (now (own .entry)) / 16)) used r
-        (now (own .entry)) (now (own .exit)) ⌝ }
-{
-    let room = MATRIX_WORDS * (own.len() / MATRIX_WORDS);
-    if runs_past(room, used, m) {
-        return Listed::Refused(Refusal::TableTooShort);
-    }
-    let mut i = 0;
-    while i < m {
-        own[used + i] = fields::u32_at(s, at + 4 * i);
-        i += 1;
-    }
-    Listed::At(used, m, used + m)
-}
-
-// The matrix that stands in s at `at`, by a copy, which cannot overlap the table, so that its words are loaded and stored at once.
-fn load_matrix(s: &[u8], at: usize, own: &mut [u32], used: usize)
-    requires { ⌜ (at + 64 ≤ length (now s)) × (used + 16 ≤ 16 * (length (now own) / 16)) ⌝ }
-    ensures { λ _. ⌜ now (own .exit) ≡ sets (now (own .entry)) used (words 4 16 (drop at (now (s .entry)))) ⌝ }
-{
-    let mut w = [0u32; 16];
-    let e = at + MATRIX_SIZE;
-    load32(&s[at..e], 0, MATRIX_WORDS, &mut w, 0);
-    copy_matrices(&w, 0, MATRIX_WORDS, own, used);
-}
-
-// n matrices that stand in s from `at` on.
+// n matrices that stand in s from `at` on. Only whole matrices are rows.
 fn load_matrices(s: &[u8], at: usize, n: usize, own: &mut [u32], used: usize) -> Listed
     requires { ⌜ at + 4 * (16 * n) ≤ length (now s) ⌝ }
     ensures { λ r. ⌜ Takes (words 4 (16 * n) (drop at (now (s .entry)))) (16 * (length (now (own .entry)) / 16)) used r
@@ -104,29 +71,20 @@ fn load_matrices(s: &[u8], at: usize, n: usize, own: &mut [u32], used: usize) ->
     if runs_past(room, used, m) {
         return Listed::Refused(Refusal::TableTooShort);
     }
-    let mut row = 0;
-    while row < n {
-        load_matrix(s, at + MATRIX_SIZE * row, own, used + MATRIX_WORDS * row);
-        row += 1;
-    }
+    runs::load_words(s, at, m, own, used);
     Listed::At(used, m, used + m)
 }
 
 // m words of 16 bits that stand in s from `at` on.
-fn load16(s: &[u8], at: usize, m: usize, own: &mut [u16], used: usize) -> Listed
+fn load_indices(s: &[u8], at: usize, m: usize, own: &mut [u16], used: usize) -> Listed
     requires { ⌜ at + 2 * m ≤ length (now s) ⌝ }
     ensures { λ r. ⌜ Takes (words 2 m (drop at (now (s .entry)))) (length (now (own .entry))) used r
         (now (own .entry)) (now (own .exit)) ⌝ }
 {
-    let room = own.len();
-    if runs_past(room, used, m) {
+    if runs_past(own.len(), used, m) {
         return Listed::Refused(Refusal::TableTooShort);
     }
-    let mut i = 0;
-    while i < m {
-        own[used + i] = fields::u16_at(s, at + 2 * i);
-        i += 1;
-    }
+    runs::load_halves(s, at, m, own, used);
     Listed::At(used, m, used + m)
 }
 
@@ -148,11 +106,7 @@ pub fn copy_matrices(
     if runs_past(other.len(), first, count) {
         return Listed::Refused(Refusal::TableTooShort);
     }
-    let mut i = 0;
-    while i < count {
-        own[used + i] = other[first + i];
-        i += 1;
-    }
+    runs::copy_words(other, first, count, own, used);
     Listed::At(used, count, used + count)
 }
 
@@ -167,17 +121,12 @@ pub fn copy_indices(
     ensures list { λ r. ⌜ Copies (now (other .entry)) first count (length (now (own .entry))) used r
         (now (own .entry)) (now (own .exit)) ⌝ }
 {
-    let room = own.len();
-    if runs_past(room, used, count) {
+    if runs_past(own.len(), used, count) {
         return Listed::Refused(Refusal::TableTooShort);
     }
     if runs_past(other.len(), first, count) {
         return Listed::Refused(Refusal::TableTooShort);
     }
-    let mut i = 0;
-    while i < count {
-        own[used + i] = other[first + i];
-        i += 1;
-    }
+    runs::copy_halves(other, first, count, own, used);
     Listed::At(used, count, used + count)
 }

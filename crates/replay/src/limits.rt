@@ -26,7 +26,7 @@ fn answer_alone(answer: u32) -> [usize; 8] {
 // where nothing is read.
 fn fields_of(r: JointsRead) -> [usize; 8] {
     match r {
-        JointsRead::Nothing => answer_alone(answers::NOTHING),
+        JointsRead::Nothing => answer_alone(rig_answers::NOTHING),
         JointsRead::Read(j) => {
             let r = j.rotation;
             let t = j.translation;
@@ -49,17 +49,17 @@ pub(crate) fn read_agrees(case: &[u8], root: u64) -> bool {
     let mut rotation = tables::dirty32();
     let mut translation = tables::dirty32();
     let r = joints::read::read(
-        sample::part(case, SYSTEM),
-        sample::part(case, GRAPHICS),
+        replay_sample::part(case, SYSTEM),
+        replay_sample::part(case, GRAPHICS),
         root,
         &mut rotation,
         &mut translation,
     );
     let fields = fields_of(r);
     tables::all(
-        sample::same_sizes(&fields, sample::part(case, FIELDS)),
-        sample::same32(&rotation, sample::part(case, ROTATION)),
-        sample::same32(&translation, sample::part(case, TRANSLATION)),
+        replay_sample::same_sizes(&fields, replay_sample::part(case, FIELDS)),
+        replay_sample::same32(&rotation, replay_sample::part(case, ROTATION)),
+        replay_sample::same32(&translation, replay_sample::part(case, TRANSLATION)),
         true,
     )
 }
@@ -81,14 +81,14 @@ fn written_as(w: JointsWritten, answer: u32, size: usize) -> bool {
 }
 
 pub(crate) fn write_agrees(case: &[u8], r: usize, t: usize, answer: u32) -> bool {
-    let rotation = sample::loaded32(sample::part(case, ROTATION_LIMITS));
-    let translation = sample::loaded32(sample::part(case, TRANSLATION_LIMITS));
+    let rotation = replay_sample::loaded32(replay_sample::part(case, ROTATION_LIMITS));
+    let translation = replay_sample::loaded32(replay_sample::part(case, TRANSLATION_LIMITS));
     let mut out = tables::dirty8();
     let w = joints::write::write(&rotation, r, &translation, t, &mut out);
-    let want = sample::part(case, SECTION);
+    let want = replay_sample::part(case, SECTION);
     tables::all(
         written_as(w, answer, want.len()),
-        sample::same8(&out, want, tables::DIRT8),
+        replay_sample::same8(&out, want, tables::DIRT8),
         true,
         true,
     )
@@ -101,5 +101,5 @@ const SLOTS: u16 = 2;
 
 pub(crate) fn fresh_agrees(case: &[u8]) -> bool {
     let slots = joints::limits::fresh_rotation_limit();
-    sample::same32(&slots, sample::part(case, SLOTS))
+    replay_sample::same32(&slots, replay_sample::part(case, SLOTS))
 }

@@ -38,13 +38,13 @@ fn replay_all(bytes: &mut [u8], counts: &mut [u32]) {
 
 // Replays the next case; false where there is none.
 fn replay_next(bytes: &mut [u8], counts: &mut [u32]) -> bool {
-    let head = sample::within8(HEAD, bytes);
+    let head = replay_sample::within8(HEAD, bytes);
     if io::read_full(STDIN_FILENO, &mut bytes[..head]) < HEAD {
         return false;
     }
     let number = fields::u32_at(bytes, 0);
     let size = fields::u32_at(bytes, 4) as usize;
-    let room = sample::within8(size, bytes);
+    let room = replay_sample::within8(size, bytes);
     if io::read_full(STDIN_FILENO, &mut bytes[..room]) < size {
         return false;
     }
@@ -54,16 +54,16 @@ fn replay_next(bytes: &mut [u8], counts: &mut [u32]) -> bool {
 
 // Makes all runs of a case: an operation, the tables of the run, and the answer that it must give.
 fn replay_case(number: u32, case: &[u8], counts: &mut [u32]) {
-    let runs = sample::part(case, RUNS);
-    let call = sample::part(case, CALL);
+    let runs = replay_sample::part(case, RUNS);
+    let call = replay_sample::part(case, CALL);
     let a = fields::u64_at(call, 0);
     let b = fields::u64_at(call, 8);
     let n = runs.len() / 4;
     let mut i = 0;
     while i < n {
-        let operation = sample::number32(runs, i);
-        let run = sample::number32(runs, i + 1);
-        let answer = sample::number32(runs, i + 2);
+        let operation = replay_sample::number32(runs, i);
+        let run = replay_sample::number32(runs, i + 1);
+        let answer = replay_sample::number32(runs, i + 2);
         let agrees = run_agrees(operation, case, a, b, run, answer);
         tally::note(counts, operation, number, run, answer, agrees);
         i += 3;

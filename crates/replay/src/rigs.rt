@@ -1,8 +1,8 @@
 // Deriving replayed (document 01, "Deriving").
 use crate::tables;
-use derive::indices::Indexed;
-use derive::tags::Tagged;
-use matrices::matrices::Transformed;
+use derive_chains::tags::Tagged;
+use derive_children::indices::Indexed;
+use derive_matrices::matrices::Transformed;
 
 // the parts
 const BONES: u16 = 2;
@@ -29,15 +29,15 @@ fn tagged_as(r: Tagged, answer: u32, count: usize) -> bool {
 }
 
 pub(crate) fn tags_agree(case: &[u8], n: usize, answer: u32) -> bool {
-    let bones = sample::loaded32(sample::part(case, BONES));
+    let bones = replay_sample::loaded32(replay_sample::part(case, BONES));
     let mut buckets = tables::dirty32();
     let mut entries = tables::dirty32();
-    let r = derive::tags::build_bone_tags(&bones, n, &mut buckets, &mut entries);
-    let want = sample::part(case, BUCKETS);
+    let r = derive_chains::tags::build_bone_tags(&bones, n, &mut buckets, &mut entries);
+    let want = replay_sample::part(case, BUCKETS);
     tables::all(
         tagged_as(r, answer, want.len() / 4),
-        sample::same32(&buckets, want),
-        sample::same32(&entries, sample::part(case, ENTRIES)),
+        replay_sample::same32(&buckets, want),
+        replay_sample::same32(&entries, replay_sample::part(case, ENTRIES)),
         true,
     )
 }
@@ -52,17 +52,23 @@ fn indexed_as(r: Indexed, answer: u32, count: usize) -> bool {
 }
 
 pub(crate) fn indices_agree(case: &[u8], n: usize, answer: u32) -> bool {
-    let bones = sample::loaded32(sample::part(case, BONES));
+    let bones = replay_sample::loaded32(replay_sample::part(case, BONES));
     let mut parents = tables::dirty16();
     let mut children = tables::dirty16();
     let mut pending = tables::dirty32();
-    let r = derive::indices::build_indices(&bones, n, &mut parents, &mut children, &mut pending);
-    let want = sample::part(case, CHILDREN);
+    let r = derive_children::indices::build_indices(
+        &bones,
+        n,
+        &mut parents,
+        &mut children,
+        &mut pending,
+    );
+    let want = replay_sample::part(case, CHILDREN);
     tables::all(
         indexed_as(r, answer, want.len() / 2),
-        sample::same16(&parents, sample::part(case, PARENTS)),
-        sample::same16(&children, want),
-        sample::same32(&pending, &case[..0]),
+        replay_sample::same16(&parents, replay_sample::part(case, PARENTS)),
+        replay_sample::same16(&children, want),
+        replay_sample::same32(&pending, &case[..0]),
     )
 }
 
@@ -76,14 +82,14 @@ fn transformed_as(r: Transformed, answer: u32) -> bool {
 }
 
 pub(crate) fn matrices_agree(case: &[u8], n: usize, answer: u32) -> bool {
-    let bones = sample::loaded32(sample::part(case, BONES));
+    let bones = replay_sample::loaded32(replay_sample::part(case, BONES));
     let mut inverse = tables::dirty32();
     let mut local = tables::dirty32();
-    let r = matrices::matrices::build_transformations(&bones, n, &mut inverse, &mut local);
+    let r = derive_matrices::matrices::build_transformations(&bones, n, &mut inverse, &mut local);
     tables::all(
         transformed_as(r, answer),
-        sample::same32(&inverse, sample::part(case, INVERSE)),
-        sample::same32(&local, sample::part(case, LOCAL)),
+        replay_sample::same32(&inverse, replay_sample::part(case, INVERSE)),
+        replay_sample::same32(&local, replay_sample::part(case, LOCAL)),
         true,
     )
 }

@@ -29,19 +29,19 @@ const CHILDREN: u16 = 13;
 // ---- the answer
 
 fn answer_agrees(r: SkeletonRead, want: &[u8], answer: u32) -> bool {
-    let fields = answers::read_fields(r);
-    let same = sample::same_sizes(&fields, sample::part(want, FIELDS));
-    tables::all(answers::read_status(r) == answer, same, true, true)
+    let fields = rig_answers::read_fields(r);
+    let same = replay_sample::same_sizes(&fields, replay_sample::part(want, FIELDS));
+    tables::all(rig_answers::read_status(r) == answer, same, true, true)
 }
 
 // ---- the tables: they hold the rows of their parts; `want` is the case, or no bytes where a table is short
 
 fn rows_agree(want: &[u8], bones: &[u32], buckets: &[u32], entries: &[u32], pool: &[u64]) -> bool {
     tables::all(
-        sample::same32(bones, sample::part(want, BONES)),
-        sample::same32(buckets, sample::part(want, BUCKETS)),
-        sample::same32(entries, sample::part(want, ENTRIES)),
-        sample::same64(pool, &want[..0]),
+        replay_sample::same32(bones, replay_sample::part(want, BONES)),
+        replay_sample::same32(buckets, replay_sample::part(want, BUCKETS)),
+        replay_sample::same32(entries, replay_sample::part(want, ENTRIES)),
+        replay_sample::same64(pool, &want[..0]),
     )
 }
 
@@ -53,10 +53,10 @@ fn lists_agree(
     children: &[u16],
 ) -> bool {
     tables::all(
-        sample::same32(inverse, sample::part(want, INVERSE)),
-        sample::same32(local, sample::part(want, LOCAL)),
-        sample::same16(parents, sample::part(want, PARENTS)),
-        sample::same16(children, sample::part(want, CHILDREN)),
+        replay_sample::same32(inverse, replay_sample::part(want, INVERSE)),
+        replay_sample::same32(local, replay_sample::part(want, LOCAL)),
+        replay_sample::same16(parents, replay_sample::part(want, PARENTS)),
+        replay_sample::same16(children, replay_sample::part(want, CHILDREN)),
     )
 }
 
@@ -78,17 +78,17 @@ fn lists_into(
     let mut local_table = tables::dirty32();
     let mut parents_table = tables::dirty16();
     let mut children_table = tables::dirty16();
-    let i = sample::lent32(case, run, 3, &inverse_table);
-    let l = sample::lent32(case, run, 4, &local_table);
-    let p = sample::lent16(case, run, 5, &parents_table);
-    let c = sample::lent16(case, run, 6, &children_table);
+    let i = replay_sample::lent32(case, run, 3, &inverse_table);
+    let l = replay_sample::lent32(case, run, 4, &local_table);
+    let p = replay_sample::lent16(case, run, 5, &parents_table);
+    let c = replay_sample::lent16(case, run, 6, &children_table);
     let inverse = &mut inverse_table[..i];
     let local = &mut local_table[..l];
     let parents = &mut parents_table[..p];
     let children = &mut children_table[..c];
     let r = read::read(
-        sample::part(case, SYSTEM),
-        sample::part(case, GRAPHICS),
+        replay_sample::part(case, SYSTEM),
+        replay_sample::part(case, GRAPHICS),
         root,
         bones,
         buckets,
@@ -109,10 +109,10 @@ fn rows_into(case: &[u8], root: u64, run: u32, want: &[u8], answer: u32) -> bool
     let mut buckets_table = tables::dirty32();
     let mut entries_table = tables::dirty32();
     let mut pool_table = tables::dirty64();
-    let n = sample::lent32(case, run, 0, &bones_table);
-    let b = sample::lent32(case, run, 1, &buckets_table);
-    let e = sample::lent32(case, run, 2, &entries_table);
-    let p = sample::lent64(case, run, 7, &pool_table);
+    let n = replay_sample::lent32(case, run, 0, &bones_table);
+    let b = replay_sample::lent32(case, run, 1, &buckets_table);
+    let e = replay_sample::lent32(case, run, 2, &entries_table);
+    let p = replay_sample::lent64(case, run, 7, &pool_table);
     let bones = &mut bones_table[..n];
     let buckets = &mut buckets_table[..b];
     let entries = &mut entries_table[..e];
@@ -127,7 +127,7 @@ fn rows_into(case: &[u8], root: u64, run: u32, want: &[u8], answer: u32) -> bool
 }
 
 pub(crate) fn read_agrees(case: &[u8], root: u64, run: u32, answer: u32) -> bool {
-    if run < sample::FULL {
+    if run < replay_sample::FULL {
         return rows_into(case, root, run, &case[..0], answer);
     }
     rows_into(case, root, run, case, answer)
@@ -142,19 +142,19 @@ const POSITION: usize = 4;
 fn looked_as(r: Looked, answer: u32, position: u32) -> bool {
     match r {
         Looked::Found(p) => answer == tables::DONE && p == position,
-        Looked::Nothing => answer == answers::NOTHING,
+        Looked::Nothing => answer == rig_answers::NOTHING,
         Looked::Refused(e) => answer == format::code(e),
     }
 }
 
 pub(crate) fn lookup_agrees(case: &[u8], root: u64, answer: u32) -> bool {
-    let others = sample::part(case, OTHERS);
+    let others = replay_sample::part(case, OTHERS);
     let tag = fields::u16_at(others, 4 * TAG);
     let r = lookup::lookup(
-        sample::part(case, SYSTEM),
-        sample::part(case, GRAPHICS),
+        replay_sample::part(case, SYSTEM),
+        replay_sample::part(case, GRAPHICS),
         root,
         tag,
     );
-    looked_as(r, answer, sample::number32(others, POSITION))
+    looked_as(r, answer, replay_sample::number32(others, POSITION))
 }

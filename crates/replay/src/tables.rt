@@ -2,7 +2,7 @@
 ghost use mathlib.Core.Path.{_≡_};
 ghost use lib.ListN.{length};
 
-// the answer of a call that does what is asked; others are `answers::NOTHING` and the numbers of the refusals
+// the answer of a call that does what is asked; others are `rig_answers::NOTHING` and the numbers of the refusals
 pub const DONE: u32 = 0;
 
 pub const DIRT8: u8 = 0xA5;

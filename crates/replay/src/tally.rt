@@ -33,17 +33,17 @@ pub(crate) fn note(
 ) {
     let at = 2 * (operation as usize);
     if agrees {
-        sample::count(counts, at);
-        sample::count(counts, AGREE);
-        sample::count(counts, MET + answer as usize);
+        replay_sample::count(counts, at);
+        replay_sample::count(counts, AGREE);
+        replay_sample::count(counts, MET + answer as usize);
         return;
     }
     if count_at(counts, DIFFER) == 0 {
         print_name(operation);
         print_line(b"differs first: case ", number, b" tables ", run);
     }
-    sample::count(counts, at + 1);
-    sample::count(counts, DIFFER);
+    replay_sample::count(counts, at + 1);
+    replay_sample::count(counts, DIFFER);
 }
 
 // The name of an operation, as wide as the widest and a space.

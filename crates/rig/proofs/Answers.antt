@@ -9,11 +9,11 @@ use Rattle.format.specs.Result.{Res, refused, done}
 use Rattle.format.specs.Refusal.{number}
 use Rattle.format.specs.declared.Refusal.{Refusal}
 use Rattle.format.specs.Joints.{Joints, RotationLimit, TranslationLimit}
-use Rattle.joints.specs.Reading.{given, meantRead}
+use Rattle.joints.specs.Reading.{listIf, meantJoints}
 use Rattle.joints.specs.declared.read.Joints as declared
 use Rattle.joints.specs.declared.read.JointsRead.{JointsRead}
 use Rattle.joints.specs.declared.read.JointsRead.the-variants as answer
-use Rattle.answers.specs.Answer.{status, counted, readStatus, numberIf}
+use Rattle.rig_answers.specs.Answer.{status, counted, readStatus, numberIf}
 use Rattle.rig.specs.Answer.{countIf, jointsFields}
 
 pub status-done : {A : Type 0} {x : Res A} {a : A} → done a ≡ x → 0 ≡ status x
@@ -33,7 +33,7 @@ pub joints-told :
     (k rc tc : ℕ) (rb tb : Bool) (rl : List RotationLimit) (tl : List TranslationLimit) {w : Res (Option Joints)} →
     done
     (some
-    (record { kind = k; rotationCount = rc; translationCount = tc; rotation = given rb rl; translation = given tb tl })) ≡ w →
+    (record { kind = k; rotationCount = rc; translationCount = tc; rotation = listIf rb rl; translation = listIf tb tl })) ≡ w →
     k ∷ rc ∷ tc ∷ numberIf rb ∷ countIf rb rc ∷ numberIf tb ∷ countIf tb tc ∷ [] ≡ jointsFields w
 joints-told k rc tc true true rl tl e = ap jointsFields e
 joints-told k rc tc true false rl tl e = ap jointsFields e
@@ -43,24 +43,24 @@ joints-told k rc tc false false rl tl e = ap jointsFields e
 -- ---- each answer of a reading, with the tables r and t behind it
 
 module _ {a : JointsRead} (r t : List ℕ) {w : Res (Option Joints)} where
-  pub nothing-read : a ≡ answer.Nothing → meantRead a r t ≡ w → (100 ≡ readStatus w) × (replicate 7 0 ≡ jointsFields w)
+  pub nothing-read : a ≡ answer.Nothing → meantJoints a r t ≡ w → (100 ≡ readStatus w) × (replicate 7 0 ≡ jointsFields w)
   nothing-read e m =
-      let x : done none ≡ w = sym (ap (λ q. meantRead q r t) e) ∙ m in
+      let x : done none ≡ w = sym (ap (λ q. meantJoints q r t) e) ∙ m in
       (ap readStatus x, ap jointsFields x)
 
   pub refused-read :
-      {f : Refusal} {n : ℕ} → a ≡ answer.Refused f → meantRead a r t ≡ w → n ≡ number f →
+      {f : Refusal} {n : ℕ} → a ≡ answer.Refused f → meantJoints a r t ≡ w → n ≡ number f →
       (n ≡ readStatus w) × (replicate 7 0 ≡ jointsFields w)
   refused-read {f} e m k =
-      let x : refused (number f) ≡ w = sym (ap (λ q. meantRead q r t) e) ∙ m in
+      let x : refused (number f) ≡ w = sym (ap (λ q. meantJoints q r t) e) ∙ m in
       (k ∙ ap readStatus x, ap jointsFields x)
 
   pub joints-read :
-      {j : declared.Joints} {rs rc ts tc : ℕ} → a ≡ answer.Read j → meantRead a r t ≡ w →
+      {j : declared.Joints} {rs rc ts tc : ℕ} → a ≡ answer.Read j → meantJoints a r t ≡ w →
       rs ≡ numberIf (j .rotation .stands) → rc ≡ countIf (j .rotation .stands) (j .«rotation_count») →
       ts ≡ numberIf (j .translation .stands) → tc ≡ countIf (j .translation .stands) (j .«translation_count») →
       (0 ≡ readStatus w) ×
       (j .kind ∷ j .«rotation_count» ∷ j .«translation_count» ∷ rs ∷ rc ∷ ts ∷ tc ∷ [] ≡ jointsFields w)
   joints-read {j} e m ers erc ets etc =
-      let x = sym (ap (λ q. meantRead q r t) e) ∙ m in
+      let x = sym (ap (λ q. meantJoints q r t) e) ∙ m in
       (ap readStatus x, rw (ers, erc, ets, etc) (joints-told _ _ _ (j .rotation .stands) (j .translation .stands) _ _ x))

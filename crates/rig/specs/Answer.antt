@@ -6,7 +6,7 @@ use mathlib.Core.List.{List, [], _∷_}
 use lib.ListN.{replicate}
 use Rattle.format.specs.Result.{Res, refused, done}
 use Rattle.format.specs.Joints.{Joints}
-use Rattle.answers.specs.Answer.{numberIf, stands}
+use Rattle.rig_answers.specs.Answer.{numberIf, present}
 
 -- a count, or 0, by whether a list stands
 abbrev pub countIf : Bool → ℕ → ℕ
@@ -19,5 +19,5 @@ jointsFields (refused n) = replicate 7 0
 jointsFields (done none) = replicate 7 0
 jointsFields (done (some j)) =
     j .kind ∷ j .rotationCount ∷ j .translationCount ∷
-    numberIf (stands (j .rotation)) ∷ countIf (stands (j .rotation)) (j .rotationCount) ∷
-    numberIf (stands (j .translation)) ∷ countIf (stands (j .translation)) (j .translationCount) ∷ []
+    numberIf (present (j .rotation)) ∷ countIf (present (j .rotation)) (j .rotationCount) ∷
+    numberIf (present (j .translation)) ∷ countIf (present (j .translation)) (j .translationCount) ∷ []

@@ -2,8 +2,8 @@
 // number of the refusal.
 ghost use Rattle.blocks.specs.Places.{section};
 ghost use Rattle.read.specs.Lent.{lent};
-ghost use Rattle.write.specs.Working.{tables};
-ghost use Rattle.answers.specs.Told.{CheckTold};
+ghost use Rattle.tables.specs.Working.{working};
+ghost use Rattle.rig_answers.specs.Told.{CheckTold};
 
 // The check of the skeleton at a root address, as `verify::check` says, which also has the order of the refusals. `count` is the
 // number of bones read, 0 unless the section is accepted. The tables of the reading are as `rig_read` leaves them after an acceptance,
@@ -35,9 +35,9 @@ pub extern "C" fn rig_check<'a>(
         (now (local .entry)) (now (parents .entry)) (now (children .entry)) (now (pool .entry)))
         (lent (now (bones .exit)) (now (buckets .exit)) (now (entries .exit)) (now (inverse .exit))
         (now (local .exit)) (now (parents .exit)) (now (children .exit)) (now (pool .exit)))
-        (tables (now («derived_buckets» .entry)) (now («derived_entries» .entry)) (now («derived_inverse» .entry))
+        (working (now («derived_buckets» .entry)) (now («derived_entries» .entry)) (now («derived_inverse» .entry))
         (now («derived_local» .entry)) (now («derived_parents» .entry)) (now («derived_children» .entry)) (now (pending .entry)))
-        (tables (now («derived_buckets» .exit)) (now («derived_entries» .exit)) (now («derived_inverse» .exit))
+        (working (now («derived_buckets» .exit)) (now («derived_entries» .exit)) (now («derived_inverse» .exit))
         (now («derived_local» .exit)) (now («derived_parents» .exit)) (now («derived_children» .exit)) (now (pending .exit))) ⌝ }
 {
     let r = verify::check(
@@ -60,6 +60,6 @@ pub extern "C" fn rig_check<'a>(
         derived_children,
         pending,
     );
-    *count = answers::checked_count(r);
-    answers::checked_status(r)
+    *count = rig_answers::checked_count(r);
+    rig_answers::checked_status(r)
 }

@@ -7,19 +7,19 @@ ghost use Rattle.format.specs.Chains.{numHashBuckets};
 ghost use Rattle.format.specs.Deriving.{tags, bucketRows, entryRows};
 ghost use Rattle.format.specs.Rows.{entryWords, bonesOf, cleared};
 ghost use Rattle.tables.specs.Outcome.{leaves};
-ghost use Rattle.derive.specs.Tagging.{tagsResult};
-ghost use Rattle.derive.specs.Indexing.{indicesResult, parentsOf, childrenOf};
-ghost use Rattle.matrices.specs.Transforming.{matricesResult, MatrixRows};
-ghost use Rattle.answers.specs.Answer.{status, counted};
-use derive::indices::Indexed;
-use derive::tags::Tagged;
-use matrices::matrices::Transformed;
+ghost use Rattle.derive_chains.specs.Tagging.{tagsResult};
+ghost use Rattle.derive_children.specs.Indexing.{indicesResult, parentsOf, childrenOf};
+ghost use Rattle.derive_matrices.specs.Transforming.{matricesResult, MatrixRows};
+ghost use Rattle.rig_answers.specs.Answer.{status, counted};
+use derive_chains::tags::Tagged;
+use derive_children::indices::Indexed;
+use derive_matrices::matrices::Transformed;
 
 #[no_mangle]
 pub extern "C" fn rig_num_hash_buckets(n: usize) -> usize
     ensures answer { λ r. ⌜ r ≡ numHashBuckets n ⌝ }
 {
-    derive::buckets::num_hash_buckets(n)
+    derive_chains::buckets::num_hash_buckets(n)
 }
 
 // The chains of n bones. `count` is the number of buckets, 0 after a refusal.
@@ -42,7 +42,7 @@ pub extern "C" fn rig_build_bone_tags(
         ≡ leaves (tagsResult n (length (now (bones .entry))) (length (now (buckets .entry))) (length (now (entries .entry))))
         (flatMap entryWords (entryRows (tags (bonesOf n (now (bones .entry)))))) (length (now (entries .entry))) ⌝ }
 {
-    match derive::tags::build_bone_tags(bones, n, buckets, entries) {
+    match derive_chains::tags::build_bone_tags(bones, n, buckets, entries) {
         Tagged::Done(c) => {
             *count = c;
             0
@@ -78,7 +78,7 @@ pub extern "C" fn rig_build_indices(
         (length (now (pending .entry)))) (childrenOf n (now (bones .entry))) (length (now (children .entry))) ⌝ }
     ensures pending { λ _. ⌜ now (pending .exit) ≡ cleared (length (now (pending .entry))) ⌝ }
 {
-    match derive::indices::build_indices(bones, n, parents, children, pending) {
+    match derive_children::indices::build_indices(bones, n, parents, children, pending) {
         Indexed::Done(c) => {
             *count = c;
             0
@@ -105,7 +105,7 @@ pub extern "C" fn rig_build_transformations(
         (bonesOf n (now (bones .entry)))
         (now (inverse .entry)) (now (inverse .exit)) (now (local .entry)) (now (local .exit)) ⌝ }
 {
-    match matrices::matrices::build_transformations(bones, n, inverse, local) {
+    match derive_matrices::matrices::build_transformations(bones, n, inverse, local) {
         Transformed::Done => 0,
         Transformed::Refused(r) => format::code(r),
     }

@@ -5,12 +5,13 @@ ghost use lib.ListN.{length};
 ghost use Rattle.format.specs.Joints.{freshSlots};
 ghost use Rattle.format.specs.Rows.{laid};
 ghost use Rattle.joints.specs.Reading.{tableRead, rotationTable, translationTable};
-ghost use Rattle.joints.specs.Written.{tableWritten, sizeOf, leftIn};
-ghost use Rattle.answers.specs.Answer.{status, counted, readStatus, numberIf};
+ghost use Rattle.joints.specs.Written.{tableWritten, leftIn};
+ghost use Rattle.tables.specs.Outcome.{sizeOf};
+ghost use Rattle.rig_answers.specs.Answer.{status, counted, readStatus, numberIf};
 ghost use Rattle.rig.specs.Answer.{countIf, jointsFields};
-use answers::NOTHING;
 use joints::read::JointsRead;
 use joints::write::JointsWritten;
+use rig_answers::NOTHING;
 
 fn number_if(b: bool) -> u32
     ensures { λ r. ⌜ r ≡ numberIf b ⌝ }

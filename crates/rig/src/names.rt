@@ -4,7 +4,7 @@ ghost use mathlib.Core.Path.{_≡_};
 ghost use Rattle.format.specs.Hash.{rageJoaat};
 ghost use Rattle.blocks.specs.Places.{section};
 ghost use Rattle.read.specs.Lent.{lent};
-ghost use Rattle.answers.specs.Told.{SearchTold};
+ghost use Rattle.rig_answers.specs.Told.{SearchTold};
 
 #[no_mangle]
 pub extern "C" fn rig_rage_joaat(s: &[u8]) -> u32
@@ -51,6 +51,6 @@ pub extern "C" fn rig_search<'a>(
         children,
         pool,
     );
-    *position = answers::searched_position(r);
-    answers::searched_status(r)
+    *position = rig_answers::searched_position(r);
+    rig_answers::searched_status(r)
 }

@@ -4,11 +4,11 @@ ghost use lib.ListN.{length};
 ghost use Rattle.format.specs.Tables.{noRows};
 ghost use Rattle.format.specs.Read.{readSkeleton};
 ghost use Rattle.blocks.specs.Places.{section};
-ghost use Rattle.read.specs.Lent.{lent, roomOf};
+ghost use Rattle.read.specs.Lent.{lent, readRoom};
 ghost use Rattle.write.specs.Outcome.{outcome};
-ghost use Rattle.write.specs.Working.{tables, roomIn, Zeroed};
-ghost use Rattle.answers.specs.Told.{freeOf, ReadTold, WriteTold};
-use write::Free;
+ghost use Rattle.tables.specs.Working.{working, roomIn, Zeroed};
+ghost use Rattle.rig_answers.specs.Told.{freeOf, ReadTold, WriteTold};
+use format::Words4;
 
 // The skeleton at a root address, read into tables as `read::read` says, which also has the order of the refusals: the rows read and
 // zeros behind them, zeros alone after none and after a refusal, and a pool of zeros after every call. `fields` are the kind word,
@@ -30,7 +30,7 @@ pub extern "C" fn rig_read<'a>(
     fields: &mut [usize; 20],
 ) -> u32
     ensures told { λ r. ⌜ ReadTold (readSkeleton (section (now (sys .entry)) (now (gfx .entry)))
-        (roomOf (lent (now (bones .entry)) (now (buckets .entry)) (now (entries .entry)) (now (inverse .entry))
+        (readRoom (lent (now (bones .entry)) (now (buckets .entry)) (now (entries .entry)) (now (inverse .entry))
         (now (local .entry)) (now (parents .entry)) (now (children .entry)) (now (pool .entry)))) root noRows) r (now (fields .exit))
         (lent (now (bones .entry)) (now (buckets .entry)) (now (entries .entry)) (now (inverse .entry))
         (now (local .entry)) (now (parents .entry)) (now (children .entry)) (now (pool .entry)))
@@ -50,8 +50,8 @@ pub extern "C" fn rig_read<'a>(
         children,
         pool,
     );
-    *fields = answers::read_fields(r);
-    answers::read_status(r)
+    *fields = rig_answers::read_fields(r);
+    rig_answers::read_status(r)
 }
 
 // The section of the first n bones of a table, written at the front of `out` as `write::write` says, which also has the order of the
@@ -75,7 +75,7 @@ pub extern "C" fn rig_write<'a>(
     count: &mut usize,
 ) -> u32
     ensures told { λ r.
-        let x = tables (now (buckets .entry)) (now (entries .entry)) (now (inverse .entry)) (now (local .entry))
+        let x = working (now (buckets .entry)) (now (entries .entry)) (now (inverse .entry)) (now (local .entry))
         (now (parents .entry)) (now (children .entry)) (now (pending .entry)) in
         ⌜
         WriteTold
@@ -86,13 +86,13 @@ pub extern "C" fn rig_write<'a>(
     ensures tables { λ _.
         ⌜
         Zeroed
-        (tables (now (buckets .entry)) (now (entries .entry)) (now (inverse .entry)) (now (local .entry))
+        (working (now (buckets .entry)) (now (entries .entry)) (now (inverse .entry)) (now (local .entry))
         (now (parents .entry)) (now (children .entry)) (now (pending .entry)))
-        (tables (now (buckets .exit)) (now (entries .exit)) (now (inverse .exit)) (now (local .exit))
+        (working (now (buckets .exit)) (now (entries .exit)) (now (inverse .exit)) (now (local .exit))
         (now (parents .exit)) (now (children .exit)) (now (pending .exit)))
         ⌝ }
 {
-    let words = Free {
+    let words = Words4 {
         x: free[0],
         y: free[1],
         z: free[2],
@@ -113,6 +113,6 @@ pub extern "C" fn rig_write<'a>(
         pending,
         out,
     );
-    *count = answers::written_count(r);
-    answers::written_status(r)
+    *count = rig_answers::written_count(r);
+    rig_answers::written_status(r)
 }

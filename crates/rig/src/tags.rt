@@ -2,7 +2,7 @@
 // number of the refusal.
 ghost use Rattle.format.specs.Lookup as Definitions;
 ghost use Rattle.blocks.specs.Places.{section};
-ghost use Rattle.answers.specs.Told.{Told};
+ghost use Rattle.rig_answers.specs.Told.{Told};
 
 // The position that the skeleton at a root address stores for a tag, as `lookup::lookup` says, which also has the order of the
 // refusals. `position` is 0 unless one is found.
@@ -12,6 +12,6 @@ pub extern "C" fn rig_lookup(sys: &[u8], gfx: &[u8], root: u64, tag: u16, positi
         r (now (position .exit)) ⌝ }
 {
     let r = lookup::lookup(sys, gfx, root, tag);
-    *position = answers::looked_position(r);
-    answers::looked_status(r)
+    *position = rig_answers::looked_position(r);
+    rig_answers::looked_status(r)
 }

@@ -7,9 +7,8 @@ use Rattle.format.specs.Refusal.{number}
 use Rattle.format.specs.Section.{Section}
 use Rattle.format.specs.Rows.{bonesOf}
 use Rattle.format.specs.Search.{firstKey}
-use Rattle.named.specs.First.{namesIn}
-use Rattle.read.specs.declared.Part.{Part}
-use Rattle.read.specs.declared.Part.the-variants.{Absent, Of}
+use Rattle.search.specs.First.{storedNames}
+use Rattle.read.specs.Parts.{partRows}
 use Rattle.read.specs.declared.SkeletonRead.{SkeletonRead}
 use Rattle.read.specs.declared.SkeletonRead.the-variants as R
 use Rattle.search.specs.declared.Searched.{Searched}
@@ -21,13 +20,8 @@ searchedOf (Found p) = done (some p)
 searchedOf Nothing = done none
 searchedOf (Refused r) = refused (number r)
 
--- how many rows a part has
-abbrev pub partRows : Part → ℕ
-partRows Absent = 0
-partRows (Of n) = n
-
 -- the first of the bones that a reading left in a table
 abbrev pub firstIn : Section → ℕ → List ℕ → SkeletonRead → Res (Option ℕ)
 firstIn sec key t R.Nothing = done none
-firstIn sec key t (R.Read s) = done (firstKey key 0 (namesIn sec (bonesOf (partRows (s .bones)) t)))
+firstIn sec key t (R.Read s) = done (firstKey key 0 (storedNames sec (bonesOf (partRows (s .bones)) t)))
 firstIn sec key t (R.Refused x) = refused (number x)

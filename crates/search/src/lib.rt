@@ -4,13 +4,15 @@ ghost use Rattle.format.specs.Tables.{noRows};
 ghost use Rattle.format.specs.Read.{readSkeleton};
 ghost use Rattle.format.specs.Search as Definitions;
 ghost use Rattle.blocks.specs.Places.{section};
-ghost use Rattle.read.specs.Lent.{lent, roomOf};
-ghost use Rattle.read.specs.Reads.{leaves};
+ghost use Rattle.read.specs.Lent.{lent, readRoom};
+ghost use Rattle.read.specs.Reads.{readLeaves};
 ghost use Rattle.search.specs.Searched.{searchedOf, firstIn};
+use crate::named::First;
 use format::Refusal;
-use named::First;
 use read::Part;
 use read::SkeletonRead;
+
+mod named; // the first bone of a table whose name hashes to a key
 
 // What a search comes to.
 pub enum Searched {
@@ -61,12 +63,12 @@ pub fn search<'a>(
     pool: &mut [u64],
 ) -> Searched
     ensures answer { λ r. ⌜ searchedOf r ≡ Definitions.search (section (now (sys .entry)) (now (gfx .entry)))
-        (roomOf (lent (now (bones .entry)) (now (buckets .entry)) (now (entries .entry)) (now (inverse .entry))
+        (readRoom (lent (now (bones .entry)) (now (buckets .entry)) (now (entries .entry)) (now (inverse .entry))
         (now (local .entry)) (now (parents .entry)) (now (children .entry)) (now (pool .entry)))) root key ⌝ }
     ensures tables { λ _. ⌜ lent (now (bones .exit)) (now (buckets .exit)) (now (entries .exit)) (now (inverse .exit))
         (now (local .exit)) (now (parents .exit)) (now (children .exit)) (now (pool .exit))
-        ≡ leaves (readSkeleton (section (now (sys .entry)) (now (gfx .entry)))
-        (roomOf (lent (now (bones .entry)) (now (buckets .entry)) (now (entries .entry)) (now (inverse .entry))
+        ≡ readLeaves (readSkeleton (section (now (sys .entry)) (now (gfx .entry)))
+        (readRoom (lent (now (bones .entry)) (now (buckets .entry)) (now (entries .entry)) (now (inverse .entry))
         (now (local .entry)) (now (parents .entry)) (now (children .entry)) (now (pool .entry)))) root noRows)
         (lent (now (bones .entry)) (now (buckets .entry)) (now (entries .entry)) (now (inverse .entry))
         (now (local .entry)) (now (parents .entry)) (now (children .entry)) (now (pool .entry))) ⌝ }

@@ -9,9 +9,9 @@ use lib.Seq.{take-suc, take-all, drop-length}
 use Rattle.format.specs.Refusal.{number}
 use Rattle.format.specs.declared.Refusal.{Refusal}
 use Rattle.format.specs.Program.{digitsOnto, report}
-use Rattle.checked.specs.Steps.{checkedOf}
-use Rattle.checked.specs.declared.Checked.{Checked}
-use Rattle.checked.specs.declared.Checked.the-variants.{Nothing, Accepted, Refused}
+use Rattle.check_steps.specs.Steps.{checkedOf}
+use Rattle.check_steps.specs.declared.Checked.{Checked}
+use Rattle.check_steps.specs.declared.Checked.the-variants.{Nothing, Accepted, Refused}
 
 drop-set : (l : List ℕ) (i v : ℕ) → i < length l → drop i (set l i v) ≡ v ∷ drop (suc i) l
 drop-set [] i v h = absurd (omega arith)

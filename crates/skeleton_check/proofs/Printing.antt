@@ -10,11 +10,11 @@ use Rattle.format.specs.Program.{programRoom, programDeriveRoom, report, printe
 use Rattle.format.specs.declared.Refusal.the-variants.{TableTooShort}
 use Rattle.blocks.specs.Places.{section}
 use Rattle.read_chains.specs.Lent.{entryRoom}
-use Rattle.read.specs.Lent.{Lent, roomOf}
-use Rattle.write.specs.Working.{Tables, roomIn}
-use Rattle.checked.specs.Steps.{checkedOf}
-use Rattle.checked.specs.declared.Checked.{Checked}
-use Rattle.checked.specs.declared.Checked.the-variants.{Refused}
+use Rattle.read.specs.Lent.{Lent, readRoom}
+use Rattle.tables.specs.Working.{Working, roomIn}
+use Rattle.check_steps.specs.Steps.{checkedOf}
+use Rattle.check_steps.specs.declared.Checked.{Checked}
+use Rattle.check_steps.specs.declared.Checked.the-variants.{Refused}
 use Rattle.verify.specs.Checks.{Checks}
 
 -- ---- the rooms of the program's tables
@@ -30,7 +30,7 @@ pub record Sized (t : Lent) : Type 0 where
   pub children : 8192 ≡ length (t .children)
   pub pool : 32768 ≡ length (t .pool)
 
-pub record SizedWork (x : Tables) : Type 0 where
+pub record SizedWork (x : Working) : Type 0 where
   pub buckets : 8192 ≡ length (x .buckets)
   pub entries : 12288 ≡ length (x .entries)
   pub inverse : 12800 ≡ length (x .inverse)
@@ -39,7 +39,7 @@ pub record SizedWork (x : Tables) : Type 0 where
   pub children : 8192 ≡ length (x .children)
   pub pending : 6408 ≡ length (x .pending)
 
-room-is : (t : Lent) → Sized t → roomOf t ≡ programRoom
+room-is : (t : Lent) → Sized t → readRoom t ≡ programRoom
 unfolding entryRoom
 room-is t s =
     rw (
@@ -53,7 +53,7 @@ room-is t s =
       sym (s .pool),
     ) refl
 
-derive-room-is : (x : Tables) → SizedWork x → roomIn x ≡ programDeriveRoom
+derive-room-is : (x : Working) → SizedWork x → roomIn x ≡ programDeriveRoom
 derive-room-is x s =
     rw (
       sym (s .buckets),
@@ -72,7 +72,7 @@ unfolding printed
 printed-long s h e = rw (lt-leb (length s) 65536 h) e
 
 pub printed-checked :
-    {y : List ℕ} (s g : List ℕ) {v : Checked} {t₀ t : Lent} {x₀ x : Tables} → length s ≤ 65536 → g ≡ [] →
+    {y : List ℕ} (s g : List ℕ) {v : Checked} {t₀ t : Lent} {x₀ x : Working} → length s ≤ 65536 → g ≡ [] →
     Checks (section s g) base v t₀ t x₀ x → Sized t₀ → SizedWork x₀ → y ≡ report (checkedOf v) →
     y ≡ printed s
 unfolding printed

@@ -4,8 +4,8 @@ ghost use mathlib.Core.List.{_++_, _∷_, []};
 ghost use Prim.Native.Nat.{_+_, _≤_};
 ghost use lib.ListN.{length, drop};
 ghost use Rattle.format.specs.Program.{digitsOnto, report};
-ghost use Rattle.checked.specs.Steps.{checkedOf};
-use checked::Checked;
+ghost use Rattle.check_steps.specs.Steps.{checkedOf};
+use check_steps::Checked;
 
 // The most digits of a number.
 const DIGITS: usize = 5;

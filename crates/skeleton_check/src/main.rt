@@ -7,7 +7,7 @@ ghost use Prim.Native.Nat.{_≤_};
 ghost use lib.ListN.{length, drop};
 ghost use Rattle.format.specs.Program.{printed};
 use crate::line::put_report;
-use checked::Checked;
+use check_steps::Checked;
 use format::Refusal;
 use libc::STDIN_FILENO;
 use libc::STDOUT_FILENO;

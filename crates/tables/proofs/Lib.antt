@@ -1,3 +1,4 @@
 pub mod Fill
 pub mod Laid
 pub mod Outcome
+pub mod Rooms

@@ -9,7 +9,7 @@ ghost use Rattle.tables.specs.Front.{frontOf};
 use format::Refusal;
 
 // Whether lent tables have room.
-pub enum Room {
+pub enum TableRoom {
     Enough,
     Refused(Refusal),
 }

@@ -12,26 +12,26 @@ use Rattle.format.specs.Rows.{boneWidth, cleared}
 use Rattle.format.specs.Tables.{SkeletonRow, Tables, noRows}
 use Rattle.format.specs.Read.{Step, readSkeleton}
 use Rattle.format.specs.Check.{Read, verdict, checkFrom, read, check}
-use Rattle.bones.proofs.Rows.{length-bones-of}
-use Rattle.promises.proofs.Frames.{counted}
-use Rattle.stages.specs.Agreement.{chainsAgree, indicesAgree, matricesAgree, chainsStage, indicesStage, matricesStage}
-use Rattle.stages.proofs.Verdict.{verdict-stages, room-tags, room-indices, room-matrices}
-use Rattle.read_rows.specs.Bytes.{Bytes}
-use Rattle.held.specs.ReadIn.{readIn}
-use Rattle.held.proofs.Held.{read-few, read-rows, read-held}
-use Rattle.read.specs.Lent.{Lent, roomOf, clearedAll}
-use Rattle.read.specs.Reads.{meantSkeleton, meantRead, answerOf, leaves, Reads}
+use Rattle.rows.proofs.Rows.{length-bones-of}
+use Rattle.format.specs.Tables.{partLength}
+use Rattle.check_stages.specs.Agreement.{chainsAgree, indicesAgree, matricesAgree, chainsStage, indicesStage, matricesStage}
+use Rattle.check_stages.proofs.Verdict.{verdict-stages, room-tags, room-indices, room-matrices}
+use Rattle.read_laws.specs.Bytes.{SectionBytes}
+use Rattle.read_laws.specs.ReadIn.{readIn}
+use Rattle.read_laws.proofs.Held.{read-few, read-rows, read-held}
+use Rattle.read.specs.Lent.{Lent, readRoom, clearedAll}
+use Rattle.read.specs.Reads.{meantSkeleton, meantRead, answerOf, readLeaves, Reads}
 use Rattle.read.specs.declared.Skeleton.{Skeleton}
 use Rattle.read.specs.declared.SkeletonRead.{SkeletonRead}
 use Rattle.read.specs.declared.SkeletonRead.the-variants as R
 use Rattle.read.proofs.Whole.{Sizes}
-use Rattle.write.specs.Working as write
-use Rattle.write.specs.Working.{roomIn, Zeroed}
-use Rattle.checked.specs.Steps.{checkedOf, rowsOf, countsOf, begun, behind, keptBy}
-use Rattle.checked.specs.declared.Counts.{Counts}
-use Rattle.checked.specs.declared.Checked.{Checked}
-use Rattle.checked.specs.declared.Checked.the-variants.{Nothing, Accepted, Refused}
-use Rattle.checked.proofs.Answers.{skeleton-is, rows-counted}
+use Rattle.tables.specs.Working.{Working, roomIn, Zeroed}
+use Rattle.check_steps.specs.Steps.{checkedOf, countsOf, begun, behind, keptBy}
+use Rattle.read.specs.Parts.{partRows}
+use Rattle.check_steps.specs.declared.Counts.{Counts}
+use Rattle.check_steps.specs.declared.Checked.{Checked}
+use Rattle.check_steps.specs.declared.Checked.the-variants.{Nothing, Accepted, Refused}
+use Rattle.check_steps.proofs.Answers.{skeleton-is, rows-counted}
 use Rattle.verify.specs.Checks.{leavesBy, Checks}
 
 -- ---- the verdict as tests one behind another
@@ -56,7 +56,7 @@ with-room n false f g h a b c ea eb ec = refl
 with-room n true f g h a b c ea eb ec = three-behind n f g h a b c (ea refl) (eb refl) (ec refl)
 
 -- the stages for n bones, over the tables t of a reading with counts k and the working tables x
-module _ (k : Counts) (t : Lent) (x : write.Tables) where
+module _ (k : Counts) (t : Lent) (x : Working) where
   abbrev pub chainsTest : ℕ → Res (Unit {0})
   chainsTest n =
       chainsStage n (t .bones) (k .buckets) (t .buckets) (t .entries) (length (x .buckets)) (length (x .entries))
@@ -96,53 +96,53 @@ module _ (k : Counts) (t : Lent) (x : write.Tables) where
 
 -- ---- the check as its stages
 
-module _ (sec : Section) (bytes : Bytes sec) (root : ℕ) (t₀ t₁ : Lent) (x : write.Tables) where
+module _ (sec : Section) (bytes : SectionBytes sec) (root : ℕ) (t₀ t₁ : Lent) (x : Working) where
   -- of a reading that gave a skeleton
   read-staged :
-      (y : Skeleton) (u : Tables) → readSkeleton sec (roomOf t₀) root noRows ≡ done (some (meantSkeleton y), u) →
-      t₁ ≡ leaves (done (some (meantSkeleton y), u)) t₀ →
-      check sec (roomOf t₀) (roomIn x) root
-      ≡ staged (countsOf (R.Read y)) t₁ x (need 1 (derives (roomIn x) (rowsOf (y .bones))) >>= λ n. done (some (rowsOf (y .bones))))
+      (y : Skeleton) (u : Tables) → readSkeleton sec (readRoom t₀) root noRows ≡ done (some (meantSkeleton y), u) →
+      t₁ ≡ readLeaves (done (some (meantSkeleton y), u)) t₀ →
+      check sec (readRoom t₀) (roomIn x) root
+      ≡ staged (countsOf (R.Read y)) t₁ x (need 1 (derives (roomIn x) (partRows (y .bones))) >>= λ n. done (some (partRows (y .bones))))
   unfolding check read checkFrom
   read-staged y u e l =
       let s = meantSkeleton y in
-      let few = read-few sec bytes (roomOf t₀) root s u e in
-      let rows = read-rows sec bytes (roomOf t₀) root s u e (length (t₀ .bones)) (ap (λ (t : Lent). t .bones) l) in
-      let held = read-held sec bytes (roomOf t₀) root s u e t₀ t₁ (cleared (length (t₀ .pool))) l in
-      let counts : readIn (counted (s .bones)) (t₁ .bones) (counted (s .buckets)) (t₁ .buckets) (t₁ .entries) (counted (s .inverse))
-      (t₁ .inverse) (counted (s .local)) (t₁ .local) (counted (s .parents)) (t₁ .parents) (counted (s .children)) (t₁ .children)
-      ≡ readIn (rowsOf (y .bones)) (t₁ .bones) (rowsOf (y .buckets)) (t₁ .buckets) (t₁ .entries) (rowsOf (y .inverse))
-      (t₁ .inverse) (rowsOf (y .local)) (t₁ .local) (rowsOf (y .parents)) (t₁ .parents) (rowsOf (y .children)) (t₁ .children) =
+      let few = read-few sec bytes (readRoom t₀) root s u e in
+      let rows = read-rows sec bytes (readRoom t₀) root s u e (length (t₀ .bones)) (ap (λ (t : Lent). t .bones) l) in
+      let held = read-held sec bytes (readRoom t₀) root s u e t₀ t₁ (cleared (length (t₀ .pool))) l in
+      let counts : readIn (partLength (s .bones)) (t₁ .bones) (partLength (s .buckets)) (t₁ .buckets) (t₁ .entries) (partLength (s .inverse))
+      (t₁ .inverse) (partLength (s .local)) (t₁ .local) (partLength (s .parents)) (t₁ .parents) (partLength (s .children)) (t₁ .children)
+      ≡ readIn (partRows (y .bones)) (t₁ .bones) (partRows (y .buckets)) (t₁ .buckets) (t₁ .entries) (partRows (y .inverse))
+      (t₁ .inverse) (partRows (y .local)) (t₁ .local) (partRows (y .parents)) (t₁ .parents) (partRows (y .children)) (t₁ .children) =
       λ j.
       readIn (rows-counted (y .bones) j) (t₁ .bones) (rows-counted (y .buckets) j) (t₁ .buckets) (t₁ .entries)
       (rows-counted (y .inverse) j) (t₁ .inverse) (rows-counted (y .local) j) (t₁ .local) (rows-counted (y .parents) j)
       (t₁ .parents) (rows-counted (y .children) j) (t₁ .children) in
       rw e
       (ap (λ (z : Read). verdict (roomIn x) z >>= λ m. done (some m)) (held ∙ counts)
-      ∙ verdict-behind (countsOf (R.Read y)) t₁ x (rowsOf (y .bones))
+      ∙ verdict-behind (countsOf (R.Read y)) t₁ x (partRows (y .bones))
       (subst (λ (n : ℕ). n ≤ 65535) (rows-counted (y .bones)) few)
       (subst (λ (n : ℕ). boneWidth * n ≤ length (t₁ .bones)) (rows-counted (y .bones)) rows))
 
-  module _ {r : SkeletonRead} (m : Reads (readSkeleton sec (roomOf t₀) root noRows) r t₀ t₁) where
+  module _ {r : SkeletonRead} (m : Reads (readSkeleton sec (readRoom t₀) root noRows) r t₀ t₁) where
     abbrev Staged : SkeletonRead → Type 0
     Staged r =
-        check sec (roomOf t₀) (roomIn x) root
+        check sec (readRoom t₀) (roomIn x) root
         ≡ staged (countsOf r) t₁ x (begun (meantRead r) (countsOf r .bones) (derives (roomIn x) (countsOf r .bones)))
 
     check-staged : Staged r
     unfolding check read checkFrom behind
-    check-staged = go (readSkeleton sec (roomOf t₀) root noRows) refl (m .answer) (m .tables)
+    check-staged = go (readSkeleton sec (readRoom t₀) root noRows) refl (m .answer) (m .tables)
       where
         go :
-            (v : Step (Option SkeletonRow)) → readSkeleton sec (roomOf t₀) root noRows ≡ v → meantRead r ≡ answerOf v →
-            t₁ ≡ leaves v t₀ → Staged r
+            (v : Step (Option SkeletonRow)) → readSkeleton sec (readRoom t₀) root noRows ≡ v → meantRead r ≡ answerOf v →
+            t₁ ≡ readLeaves v t₀ → Staged r
         go (refused c) e a l = rw (e, a) refl
         go (done (none, u)) e a l = rw (e, a) refl
         go (done (some s, u)) e a l =
             let i = skeleton-is r s a in
             subst Staged (sym (i .is))
             (read-staged (i .skeleton) u (e ∙ ap (λ (y : SkeletonRow). done (some y, u)) (sym (i .meant)))
-            (l ∙ ap (λ (y : SkeletonRow). leaves (done (some y, u)) t₀) (sym (i .meant))))
+            (l ∙ ap (λ (y : SkeletonRow). readLeaves (done (some y, u)) t₀) (sym (i .meant))))
 
 -- ---- tables
 
@@ -150,7 +150,7 @@ same-clear : {a b : Lent} → Sizes a b → clearedAll a ≡ clearedAll b
 same-clear s = simp (s .bones, s .buckets, s .entries, s .inverse, s .local, s .parents, s .children, s .pool)
 
 kept-left :
-    (v : Checked) (g : Step (Option SkeletonRow)) (t₀ t₁ : Lent) → Sizes t₁ t₀ → t₁ ≡ leaves g t₀ →
+    (v : Checked) (g : Step (Option SkeletonRow)) (t₀ t₁ : Lent) → Sizes t₁ t₀ → t₁ ≡ readLeaves g t₀ →
     keptBy v t₁ ≡ leavesBy (checkedOf v) g t₀
 unfolding keptBy
 kept-left Nothing g t₀ t₁ s l = same-clear s
@@ -160,8 +160,8 @@ kept-left (Refused y) g t₀ t₁ s l = same-clear s
 -- ---- the whole call
 
 module _
-    (sec : Section) (bytes : Bytes sec) (root : ℕ) (t₀ t₁ t : Lent) (x₀ x : write.Tables) {r : SkeletonRead}
-    (m : Reads (readSkeleton sec (roomOf t₀) root noRows) r t₀ t₁) (s : Sizes t₁ t₀) {k : Counts} (ek : k ≡ countsOf r)
+    (sec : Section) (bytes : SectionBytes sec) (root : ℕ) (t₀ t₁ t : Lent) (x₀ x : Working) {r : SkeletonRead}
+    (m : Reads (readSkeleton sec (readRoom t₀) root noRows) r t₀ t₁) (s : Sizes t₁ t₀) {k : Counts} (ek : k ≡ countsOf r)
     (b c i v y : Checked)
   where
     pub check-whole :
@@ -171,7 +171,7 @@ module _
         checkedOf v ≡ behind (checkedOf i) (matricesTest k t₁ x₀) →
         y ≡ v → t ≡ keptBy v t₁ → Zeroed x₀ x → Checks sec root y t₀ t x₀ x
     check-whole eb ec ei ev ey et w =
-        let a : checkedOf v ≡ check sec (roomOf t₀) (roomIn x₀) root =
+        let a : checkedOf v ≡ check sec (readRoom t₀) (roomIn x₀) root =
         ev
         ∙ ap (λ (z : Res (Option ℕ)). behind z (matricesTest k t₁ x₀))
         (ei
@@ -181,7 +181,7 @@ module _
         ∙ sym (check-staged sec bytes root t₀ t₁ x₀ m) in
         record {
           answer = ap checkedOf ey ∙ a;
-          tables = et ∙ kept-left v (readSkeleton sec (roomOf t₀) root noRows) t₀ t₁ s (m .tables)
-              ∙ ap (λ (z : Checked). leavesBy (checkedOf z) (readSkeleton sec (roomOf t₀) root noRows) t₀) (sym ey);
+          tables = et ∙ kept-left v (readSkeleton sec (readRoom t₀) root noRows) t₀ t₁ s (m .tables)
+              ∙ ap (λ (z : Checked). leavesBy (checkedOf z) (readSkeleton sec (readRoom t₀) root noRows) t₀) (sym ey);
           working = w;
         }

@@ -2,15 +2,15 @@
 // the two are compared word by word.
 ghost use Rattle.blocks.specs.Places.{section};
 ghost use Rattle.read.specs.Lent.{lent};
-ghost use Rattle.write.specs.Working.{tables};
+ghost use Rattle.tables.specs.Working.{working};
 ghost use Rattle.verify.specs.Checks.{Checks};
-use checked::Checked;
-use checked::begin;
-use checked::check_chains;
-use checked::check_indices;
-use checked::check_matrices;
-use checked::count_parts;
-use checked::settle;
+use check_steps::Checked;
+use check_steps::begin;
+use check_steps::chains_step;
+use check_steps::count_parts;
+use check_steps::indices_step;
+use check_steps::matrices_step;
+use check_steps::settle;
 
 // Checks the skeleton at a root address of a section, the system and the graphics bytes: reads it, and compares its chains, parents,
 // children and matrices with those derived from the bones read. Gives the number of bones read, and none for root 0. Refusals:
@@ -41,9 +41,9 @@ pub fn check<'a>(
         (now (local .entry)) (now (parents .entry)) (now (children .entry)) (now (pool .entry)))
         (lent (now (bones .exit)) (now (buckets .exit)) (now (entries .exit)) (now (inverse .exit))
         (now (local .exit)) (now (parents .exit)) (now (children .exit)) (now (pool .exit)))
-        (tables (now («derived_buckets» .entry)) (now («derived_entries» .entry)) (now («derived_inverse» .entry))
+        (working (now («derived_buckets» .entry)) (now («derived_entries» .entry)) (now («derived_inverse» .entry))
         (now («derived_local» .entry)) (now («derived_parents» .entry)) (now («derived_children» .entry)) (now (pending .entry)))
-        (tables (now («derived_buckets» .exit)) (now («derived_entries» .exit)) (now («derived_inverse» .exit))
+        (working (now («derived_buckets» .exit)) (now («derived_entries» .exit)) (now («derived_inverse» .exit))
         (now («derived_local» .exit)) (now («derived_parents» .exit)) (now («derived_children» .exit)) (now (pending .exit))) ⌝ }
 {
     let r = read::read(
@@ -71,7 +71,7 @@ pub fn check<'a>(
         derived_children.len(),
         pending.len(),
     );
-    let c = check_chains(
+    let c = chains_step(
         b,
         bones,
         buckets,
@@ -80,7 +80,7 @@ pub fn check<'a>(
         derived_buckets,
         derived_entries,
     );
-    let i = check_indices(
+    let i = indices_step(
         c,
         bones,
         parents,
@@ -91,7 +91,7 @@ pub fn check<'a>(
         derived_children,
         pending,
     );
-    let m = check_matrices(
+    let m = matrices_step(
         i,
         bones,
         inverse,

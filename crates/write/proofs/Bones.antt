@@ -13,12 +13,12 @@ use Rattle.format.specs.Bone.{Bone}
 use Rattle.format.specs.Rows.{boneWidth, placeOf, boneOf, bonesOf}
 use Rattle.format.specs.Layout.{base, pointer, boneItems}
 use Rattle.format.proofs.Fields.{length-lay, size}
-use Rattle.bones.specs.Value.{ourPlace}
+use Rattle.rows.specs.Value.{ourPlace}
 use Rattle.format.specs.declared.Place as our
-use Rattle.bones.proofs.Rows.{length-bones-of}
-use Rattle.write.specs.Placing.{window}
+use Rattle.rows.proofs.Rows.{length-bones-of}
+use Rattle.format.specs.Section.{window}
 use Rattle.write.specs.Records.{takes, takesAll, records, block, boneRecord, ShortName, BonesRoom, BlockRoom}
-use Rattle.write.proofs.Runs.{Left, left-none, left-more, left-all}
+use Rattle.fields.proofs.RunLaws.{Left, left-none, left-more, left-all}
 use Rattle.write.proofs.Items.{bone-words, header-words}
 use Rattle.write.proofs.Placing.{block-size}
 use Rattle.fields.proofs.Stores.{sets-append}

@@ -13,9 +13,9 @@ use lib.Dec.{leb, eqb}
 use Rattle.format.specs.Chains.{bucketCount, entryCount, Entry, entryOf, keepIf, keep, falling, inBucket, chain, upFrom, chains}
 use Rattle.format.specs.Deriving.{EntryRow, entryRow, linkBelow, bucketRows, entryRows}
 use Rattle.format.specs.Rows.{entryWords, laid}
-use Rattle.derive.proofs.Counts.{few-buckets, many-entries}
-use Rattle.derive.proofs.Tagging.{getD-up-from, length-up-from}
-use Rattle.write.specs.Linked.{follow, linked, LinksFall, chainsOf}
+use Rattle.derive_chains.proofs.Counts.{few-buckets, many-entries}
+use Rattle.derive_chains.proofs.Tagging.{getD-up-from, length-up-from}
+use Rattle.write.specs.Linked.{followRows, linked, LinksFall, chainsOf}
 use Rattle.write.proofs.Linked.{linked-suc}
 use Rattle.write.proofs.Totals.{few-or-many}
 
@@ -102,7 +102,7 @@ module _ (ts rows : List ℕ) (m : ℕ) (e : rows ≡ laid (flatMap entryWords (
   chain-below :
       (b n : ℕ) → n ≤ entryCount (length ts)
       → linked rows (linkBelow ts (count ts) b n) ≡ keep (inBucket (count ts) b) (falling ts n)
-  unfolding linkBelow keep falling follow
+  unfolding linkBelow keep falling followRows
   chain-below b zero h = refl
   chain-below b (suc n) h = by (eqb (getD ts n 0 % count ts) b) refl (chain-below b n (omega arith))
     where

@@ -12,7 +12,8 @@ use Rattle.format.specs.Rows.{boneOf}
 use Rattle.format.specs.Layout as Layout
 use Rattle.format.specs.Layout.{base, pointer, boneItems, skeletonItems}
 use Rattle.format.proofs.Fields.{bytes-add, bytes-mod}
-use Rattle.write.specs.Placing.{window, SkeletonCounts, skeletonWords}
+use Rattle.write.specs.Placing.{SkeletonCounts, skeletonWords}
+use Rattle.format.specs.Section.{window}
 use Rattle.write.specs.Linked.{entryItems}
 use Rattle.write.specs.Records.{boneRecord}
 

@@ -13,9 +13,10 @@ use Rattle.format.specs.Chains.{Entry, entryOf}
 use Rattle.format.specs.Layout.{base, fill, pad16, pointer, pointers, chainBytes, entryTotal, entryBytes}
 use Rattle.format.proofs.Fields.{length-bytes, length-wordBytes, length-lay, size}
 use Rattle.fields.proofs.Stores.{sets-append}
-use Rattle.write.specs.Placing.{window}
-use Rattle.write.specs.Linked.{entryItems, follow, linked, LinksFall, ChainRoom, chainsOf, ChainsRoom, ChainsLaid}
-use Rattle.write.proofs.Runs.{sets-swap, padded, Left, left-none, left-more, left-all}
+use Rattle.format.specs.Section.{window}
+use Rattle.write.specs.Linked.{entryItems, followRows, linked, LinksFall, ChainRoom, chainsOf, ChainsRoom, ChainsLaid}
+use Rattle.fields.proofs.RunLaws.{Left, left-none, left-more, left-all}
+use Rattle.write.proofs.Runs.{sets-swap, padded}
 use Rattle.write.proofs.Items.{entry-words, pointer-words}
 
 -- ---- one entry and one pointer, stored as words
@@ -34,8 +35,8 @@ stored-pointer d at head link h e f = rw (pointer-words head link h) at (rw e at
 -- ---- the chain from a link on
 
 -- more turns than a link says change nothing
-follow-same : (rows : List ℕ) → LinksFall rows → (k j l : ℕ) → l ≤ k → l ≤ j → follow rows k l ≡ follow rows j l
-unfolding follow
+follow-same : (rows : List ℕ) → LinksFall rows → (k j l : ℕ) → l ≤ k → l ≤ j → followRows rows k l ≡ followRows rows j l
+unfolding followRows
 follow-same rows f zero zero zero h g = refl
 follow-same rows f zero (suc j) zero h g = refl
 follow-same rows f (suc k) zero zero h g = refl
@@ -49,7 +50,7 @@ follow-same rows f (suc k) (suc j) (suc p) h g =
 pub linked-suc :
     (rows : List ℕ) (p : ℕ) → LinksFall rows
     → linked rows (suc p) ≡ entryOf (getD rows (3 * p) 0) (getD rows (3 * p + 1) 0) ∷ linked rows (getD rows (3 * p + 2) 0)
-unfolding follow
+unfolding followRows
 linked-suc rows p f =
     let next = getD rows (3 * p + 2) 0 in
     ap (λ (es : List Entry). entryOf (getD rows (3 * p) 0) (getD rows (3 * p + 1) 0) ∷ es)
@@ -57,7 +58,7 @@ linked-suc rows p f =
 
 -- a pointer to a chain is 0 where its link is
 pub pointer-linked : (rows : List ℕ) (at l : ℕ) → pointer at (length (linked rows l)) ≡ pointer at l
-unfolding pointer follow
+unfolding pointer followRows
 pointer-linked rows at zero = refl
 pointer-linked rows at (suc p) = refl
 
@@ -108,7 +109,7 @@ module _ {rows : List ℕ} {link : ℕ} {d₀ : List ℕ} {at : ℕ} {d : List �
 pub chaining-all :
     {rows : List ℕ} {link : ℕ} {d₀ : List ℕ} {at : ℕ} {d : List ℕ} {to l : ℕ} → Chaining rows link d₀ at d to l → l ≡ 0
     → (to ≡ at + 16 * length (linked rows link)) × (d ≡ sets d₀ at (chainBytes (base + at) (linked rows link)))
-unfolding follow chainBytes
+unfolding followRows chainBytes
 chaining-all {rows} {link} {d₀} {at} {d} {to} {l} h e =
     (omega (arith, rw e at (h .counts)), left-all (rw e at (h .left)))
 

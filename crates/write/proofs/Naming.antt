@@ -26,11 +26,12 @@ use Rattle.blocks.specs.declared.places.Located.{Located}
 use Rattle.blocks.specs.declared.places.Located.the-variants.{Refused}
 use Rattle.blocks.proofs.Standing.{refused-part}
 use Rattle.blocks.proofs.Search.{le-or-lt}
-use Rattle.bones.specs.Value.{ourPlace}
+use Rattle.rows.specs.Value.{ourPlace}
 use Rattle.format.specs.declared.Place as our
 use Rattle.write.specs.Records.{takes, takesAll, ShortName}
 use Rattle.write.specs.Names.{nameIn, namesResult, chunkMask, StoredTo, NamesRoom}
-use Rattle.write.proofs.Runs.{length-cut, cut-byte, just-stored, Left, left-none, left-past, left-all}
+use Rattle.fields.proofs.RunLaws.{length-part as length-cut, part-word, Left, left-none, left-all}
+use Rattle.write.proofs.Runs.{just-stored, left-past}
 use Rattle.write.proofs.Bones.{name-none, name-some, row-bone, row-whole, bones-next}
 
 -- ---- bytes without a zero
@@ -66,7 +67,7 @@ passed-more s at k {i} {good} r h l =
     let w = take k (drop at s) in
     let m : i < length w = rw (length-cut s at k r) l in
     let e : noZero (drop i w) ≡ (not (eqb (getD s (at + i) 0) 0) && noZero (drop (i + 1) w)) =
-    rw (drop-cons w i 0 m, cut-byte s at k i l, add-one) in
+    rw (drop-cons w i 0 m, ← part-word s at k i l, add-one) in
     record { same = h .same ∙ rw e (sym (and-assoc good (not (eqb (getD s (at + i) 0) 0)) (noZero (drop (i + 1) w)))) }
 
 pub passed-all :

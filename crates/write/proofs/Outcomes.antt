@@ -18,17 +18,18 @@ use Rattle.format.specs.Deriving.{DeriveRoom, derives}
 use Rattle.format.specs.Rows.{bonesOf}
 use Rattle.format.specs.Layout.{Bytes, layout}
 use Rattle.format.specs.Write.{goodNames, named, written}
-use Rattle.bones.proofs.Rows.{length-bones-of}
+use Rattle.rows.proofs.Rows.{length-bones-of}
 use Rattle.write.specs.Records.{takesAll}
 use Rattle.write.specs.Names.{namesResult, measuredOf, RowsHere}
 use Rattle.write.specs.Filling.{kidsOf, Held}
 use Rattle.write.specs.Outcome.{outcome, Writes, tested, derivedIn, laidOut}
-use Rattle.write.specs.Checks.{checkedOf}
-use Rattle.write.specs.Working.{Tables, Rows, HeldBy, derivedOf}
+use Rattle.write.specs.Tests.{testedOf}
+use Rattle.write.specs.Working.{DerivedRows, HeldBy, derivedOf}
+use Rattle.tables.specs.Working.{Working}
 use Rattle.write.specs.declared.Written.{Written}
 use Rattle.write.specs.declared.Written.the-variants.{Done, Refused}
-use Rattle.write.specs.declared.outcome.Checked.{Checked}
-use Rattle.write.specs.declared.outcome.Checked.the-variants as checked
+use Rattle.write.specs.declared.outcome.Tested.{Tested}
+use Rattle.write.specs.declared.outcome.Tested.the-variants as checked
 use Rattle.write.specs.declared.working.Derived.{Derived}
 use Rattle.write.specs.declared.working.Derived.the-variants as derived
 use Rattle.write.specs.declared.names.Measured.{Measured}
@@ -91,10 +92,10 @@ names-by lent bs s e = by (goodNames lent bs) refl e
     by true q f = (q, cc)
     by false q f = let z : _≡_ {A = ℕ} 0 1 = cc in absurd (omega arith)
 
-pub sound : (lent : Section) (n : ℕ) (t : List ℕ) {r : Checked} {s : ℕ} → checkedOf r ≡ tested lent n t → r ≡ checked.Names s →
+pub sound : (lent : Section) (n : ℕ) (t : List ℕ) {r : Tested} {s : ℕ} → testedOf r ≡ tested lent n t → r ≡ checked.Names s →
     Sound lent n t s
 unfolding tested
-sound lent n t {r} {s} e q = by (leb n 65535) (leb (21 * n) (length t)) refl refl (ap checkedOf (sym q) ∙ e)
+sound lent n t {r} {s} e q = by (leb n 65535) (leb (21 * n) (length t)) refl refl (ap testedOf (sym q) ∙ e)
   where
     by :
         (x y : Bool) → leb n 65535 ≡ x → leb (21 * n) (length t) ≡ y
@@ -121,12 +122,12 @@ module _ (lent : Section) (room : DeriveRoom) (size n : ℕ) (t : List ℕ) (fre
   outcome-by true true true c rest e = let z : _≡_ {A = ℕ} 0 1 = cc in absurd (omega arith)
 
   pub outcome-refused :
-      {r : Checked} {x : Refusal} → checkedOf r ≡ tested lent n t → r ≡ checked.Refused x
+      {r : Tested} {x : Refusal} → testedOf r ≡ tested lent n t → r ≡ checked.Refused x
       → outcome lent room size n t free ≡ refused (number x)
   unfolding outcome written tested namesResult
   outcome-refused {r} {x} e q =
       rw (length-bones-of n t)
-      (outcome-by (leb n 65535) (leb (21 * n) (length t)) (goodNames lent (bonesOf n t)) (number x) _ (ap checkedOf (sym q) ∙ e))
+      (outcome-by (leb n 65535) (leb (21 * n) (length t)) (goodNames lent (bonesOf n t)) (number x) _ (ap testedOf (sym q) ∙ e))
 
   -- bones that pass: the tables, the child entries and the buffer are left
   pub outcome-sound :
@@ -187,12 +188,12 @@ module _ (lent : Section) (room : DeriveRoom) (size n : ℕ) (t : List ℕ) (fre
       (outcome-sound lent room size n t free h ∙ m .0, m .1)
 
 -- the tables of a call that refused nothing
-pub rows-held : {r : Derived} {k n : ℕ} {t : List ℕ} {x : Tables} → HeldBy r n t x → r ≡ derived.Children k → Rows n t x
+pub rows-held : {r : Derived} {k n : ℕ} {t : List ℕ} {x : Working} → HeldBy r n t x → r ≡ derived.Children k → DerivedRows n t x
 rows-held {n = n} {t = t} {x = x} h e = subst (λ (d : Derived). HeldBy d n t x) e h
 
 -- what filling asks for
 pub all-held :
-    {lent : Section} {n : ℕ} {t : List ℕ} {s c k : ℕ} {x : Tables} → Sound lent n t s → Rows n t x → c ≡ bucketCount n
+    {lent : Section} {n : ℕ} {t : List ℕ} {s c k : ℕ} {x : Working} → Sound lent n t s → DerivedRows n t x → c ≡ bucketCount n
     → k ≡ length (kidsOf (bonesOf n t))
     → Held (record { bones = n; buckets = c; children = k; names = s }) lent t (x .buckets) (x .entries) (x .inverse) (x .local)
     (x .parents) (x .children)

@@ -4,7 +4,8 @@ use Prim.Native.Nat.{ℕ, zero, suc, _+_, _*_, _≤_}
 use native.Mathlib.Nat.{le-refl}
 use native.Mathlib.Omega.{arith}
 use Rattle.format.specs.Layout.{after, pointer, blockSize, Starts, starts}
-use Rattle.write.specs.Placing.{window, Counts}
+use Rattle.write.specs.Placing.{Counts}
+use Rattle.format.specs.Section.{window}
 
 -- ---- pointers and sizes
 

@@ -1,6 +1,6 @@
--- Bytes stored one behind the other: what is left to store gives the whole. In order: stores that do not meet, and those that
--- overlap; bytes as they are; bytes stored up to a limit; what is left; words of k bytes and zeros, as the loops store them; a part
--- with its fill. Assumes nothing.
+-- Bytes stored one behind the other: what is left to store gives the whole (`Left` of `fields`). In order: stores that do not meet, and
+-- those that overlap; bytes as they are; bytes stored up to a limit; what is left; zeros, as the loop stores them; a part with its fill.
+-- Assumes nothing.
 use mathlib.Core.Path.{_≡_, refl, sym, ap, _∙_}
 use mathlib.Core.List.{List, [], _∷_, _++_, append-nil, append-assoc}
 use Prim.Native.Nat.{ℕ, zero, suc, _+_, _-_, _*_, _≤_, _<_}
@@ -13,7 +13,7 @@ use Rattle.format.specs.Field.{bytes, wordBytes}
 use Rattle.format.specs.Layout.{fill, pad16}
 use Rattle.format.proofs.Fields.{length-bytes}
 use Rattle.fields.proofs.Stores.{sets-append, part-sets-same}
-use Rattle.bones.proofs.Words.{Pasted, pasted-more, pasted-all}
+use Rattle.fields.proofs.RunLaws.{Left, left-none, left-all, left-more, length-part}
 use Rattle.write.specs.Names.{StoredTo}
 
 -- ---- stores that do not meet
@@ -50,29 +50,12 @@ sets-over a b s i h =
 -- ---- bytes as they are: k of s, from a place on
 
 module _ (s : List ℕ) (from k : ℕ) where
-  pub length-cut : from + k ≤ length s → length (take k (drop from s)) ≡ k
-  length-cut h = length-take-le k (drop from s) (simp length-drop (omega arith))
-
-  pub cut-byte : (i : ℕ) → i < k → getD (take k (drop from s)) i 0 ≡ getD s (from + i) 0
-  cut-byte i l = getD-take k (drop from s) i 0 l ∙ getD-drop from s i 0
-
-  module _ {d₀ d : List ℕ} {at i : ℕ} (h : from + k ≤ length s) (r : at + k ≤ length d₀)
-      (p : Pasted d₀ at (take k (drop from s)) d i) where
-    room : at + length (take k (drop from s)) ≤ length d₀
-    room = rw (length-cut h) r
-
-    pub cut-more : i < k → Pasted d₀ at (take k (drop from s)) (set d (at + i) (getD s (from + i) 0)) (i + 1)
-    cut-more l = rw (← cut-byte i l) (pasted-more room p (rw (length-cut h) l))
-
-    pub cut-all : k ≤ i → d ≡ sets d₀ at (take k (drop from s))
-    cut-all l = pasted-all room p (rw (length-cut h) l)
-
   -- by a copy in b
   pub copied :
       (b₀ d : List ℕ) (at : ℕ) {b d′ : List ℕ} → from + k ≤ length s → k ≤ length b₀ → b ≡ sets b₀ 0 (take k (drop from s))
       → d′ ≡ sets d at (take k b) → d′ ≡ sets d at (take k (drop from s))
   copied b₀ d at {b} {d′} h m e f =
-      let n = length-cut h in
+      let n = length-part s from k h in
       let g = part-sets-same (take k (drop from s)) b₀ 0 (rw n (omega (arith, m))) in
       let q : take k b ≡ take k (drop from s) = rw e (rw n at g) in
       f ∙ rw q
@@ -92,10 +75,10 @@ module _ (limit : ℕ) (d : List ℕ) (at : ℕ) where
         let w = take j (drop from s) in
         let t : take k w ≡ take k (drop from s) = take-take k j (drop from s) h in
         let c : w ≡ take k (drop from s) ++ drop k w = rw (← t) (sym (take-append-drop k w)) in
-        let l : length (take k (drop from s)) ≡ k = length-cut s from k (omega arith) in
+        let l : length (take k (drop from s)) ≡ k = length-part s from k (omega arith) in
         record {
           more = drop k w;
-          room = omega (arith, r, h, l, length-drop k w, length-cut s from j m);
+          room = omega (arith, r, h, l, length-drop k w, length-part s from j m);
           is = e ∙ ap (sets d at) c;
         }
 
@@ -105,7 +88,7 @@ module _ (limit : ℕ) (d : List ℕ) (at : ℕ) where
         → StoredTo limit d at (take k (drop from s) ++ 0 ∷ []) (set d′ (at + k) 0)
     ended-stored {d′} m r h =
         let x = take k (drop from s) in
-        let l : length x ≡ k = length-cut s from k m in
+        let l : length x ≡ k = length-part s from k m in
         let y : List ℕ = 0 ∷ [] in
         let e : set d′ (at + k) 0 ≡ sets (sets (sets d at x) (at + length x) (h .more)) (at + length x) y =
         rw (h .is, sets-append x (h .more) d at, l) in
@@ -119,30 +102,7 @@ module _ (limit : ℕ) (d : List ℕ) (at : ℕ) where
 
 -- ---- what is left
 
--- `rest` stored from `to` on makes the buffer d what `whole` stored from `at` on makes of d₀
-pub record Left (d₀ : List ℕ) (at : ℕ) (whole d : List ℕ) (to : ℕ) (rest : List ℕ) : Type 0 where
-  pub same : length d ≡ length d₀
-  pub is : sets d to rest ≡ sets d₀ at whole
-  pub ends : to + length rest ≡ at + length whole
-
-pub left-none : (d : List ℕ) (at : ℕ) (whole : List ℕ) → Left d at whole d at whole
-left-none d at whole = record { same = refl; is = refl; ends = refl }
-
-pub left-all : {d₀ whole d : List ℕ} {at to : ℕ} → Left d₀ at whole d to [] → d ≡ sets d₀ at whole
-left-all h = h .is
-
--- the first part of the rest stored
-pub left-more :
-    {d₀ whole d d′ : List ℕ} {at to : ℕ} (x rest : List ℕ) → Left d₀ at whole d to (x ++ rest) → d′ ≡ sets d to x
-    → Left d₀ at whole d′ (to + length x) rest
-left-more {d₀} {whole} {d} {d′} {at} {to} x rest h e =
-    record {
-      same = ap length e ∙ length-sets d to x ∙ h .same;
-      is = ap (λ (l : List ℕ). sets l (to + length x) rest) e ∙ sym (sets-append x rest d to) ∙ h .is;
-      ends = omega (arith, h .ends, length-append x rest);
-    }
-
--- the same, where others of the rest may have been stored over
+-- the first part of the rest stored, where others of the rest may have been stored over
 pub left-past :
     {d₀ whole d d′ : List ℕ} {at to : ℕ} (x rest : List ℕ) → Left d₀ at whole d to (x ++ rest)
     → StoredTo (at + length whole) d to x d′ → Left d₀ at whole d′ (to + length x) rest
@@ -156,31 +116,6 @@ left-past {d₀} {whole} {d} {d′} {at} {to} x rest h e =
           ∙ sets-over (e .more) rest (sets d to x) (to + length x) m ∙ sym (sets-append x rest d to) ∙ h .is;
       ends = omega (arith, h .ends, n);
     }
-
--- ---- words of k bytes
-
-module _ (k : ℕ) where
-  -- the words from the i-th on are left
-  pub record Words (d₀ : List ℕ) (at : ℕ) (w d : List ℕ) (i : ℕ) : Type 0 where
-    pub high : i ≤ length w
-    pub left : Left d₀ at (wordBytes k w) d (at + k * i) (wordBytes k (drop i w))
-
-  pub words-none : (d : List ℕ) (at : ℕ) (w : List ℕ) → Words d at w d 0
-  words-none d at w = record { high = omega arith; left = simp (mul-zero, add-zero) (left-none d at (wordBytes k w)) }
-
-  pub words-more :
-      {d₀ w d d′ : List ℕ} {at i : ℕ} → Words d₀ at w d i → i < length w → d′ ≡ sets d (at + k * i) (bytes k (getD w i 0))
-      → Words d₀ at w d′ (i + 1)
-  unfolding wordBytes
-  words-more {d₀} {w} {d} {d′} {at} {i} h l e =
-      let m : at + k * i + k ≡ at + k * suc i = simp (mul-suc, add-assoc) (omega arith) in
-      let x = bytes k (getD w i 0) in
-      let n = left-more x (wordBytes k (drop (suc i) w)) (rw (drop-cons w i 0 l) at (h .left)) e in
-      record { high = omega arith; left = rw add-one (rw (length-bytes k (getD w i 0), m) at n) }
-
-  pub words-all : {d₀ w d : List ℕ} {at i : ℕ} → Words d₀ at w d i → length w ≤ i → d ≡ sets d₀ at (wordBytes k w)
-  unfolding wordBytes
-  words-all {d₀} {w} {d} {at} {i} h l = left-all (rw (drop-of-length-le w l) at (h .left))
 
 -- ---- zeros
 

@@ -19,7 +19,7 @@ use Rattle.format.specs.Layout.{entryTotal, entryBytes, allNames, blockSize, St
 use Rattle.format.specs.Layout.{skeletonItems, joined, layout}
 use Rattle.format.specs.Write.{goodName, goodNames, named}
 use Rattle.format.proofs.Fields.{length-wordBytes}
-use Rattle.bones.proofs.Rows.{row-at-suc, length-bones-of}
+use Rattle.rows.proofs.Rows.{row-at-suc, length-bones-of}
 use Rattle.tables.proofs.Outcome.{both-true}
 use Rattle.write.specs.Records.{takesAll, block}
 use Rattle.write.specs.Filling.{bonesStored, listsStored, kidsOf}

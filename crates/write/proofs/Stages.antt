@@ -16,12 +16,13 @@ use Rattle.format.specs.Deriving.{tags, parents}
 use Rattle.format.specs.Rows.{laid, boneOf, bonesOf}
 use Rattle.format.specs.Layout.{after, entryTotal, blockSize, Starts, starts, skeletonItems, layout}
 use Rattle.format.specs.Write.{named}
-use Rattle.bones.proofs.Rows.{length-bones-of}
-use Rattle.derive.proofs.Counts.{entries-le}
-use Rattle.write.specs.Placing.{window, Counts, SkeletonCounts}
+use Rattle.rows.proofs.Rows.{length-bones-of}
+use Rattle.derive_chains.proofs.Counts.{entries-le}
+use Rattle.write.specs.Placing.{Counts, SkeletonCounts}
+use Rattle.format.specs.Section.{window}
 use Rattle.write.specs.Linked.{chainsOf, ChainsRoom, ChainsLaid}
 use Rattle.write.specs.Records.{takesAll}
-use Rattle.write.specs.Filling.{BonesPart, bonesStored, ListsRoom, listsStored, kidsOf, Held, Ready}
+use Rattle.write.specs.Filling.{BonesPart, bonesStored, ListsRoom, listsStored, kidsOf, Held, PartsPlaced}
 use Rattle.write.specs.declared.filling.Sizes.{Sizes}
 use Rattle.write.proofs.Placing.{children-le, Ordered}
 use Rattle.write.proofs.Naming.{good-takes}
@@ -74,7 +75,7 @@ counts-small {s} {lent} {t} h =
     }
 
 module _ {at : Starts} {s : Sizes} {lent : Section} {t heads rows inverse local ps cs : List ℕ} {size : ℕ}
-    (r : Ready at s lent t heads rows inverse local ps cs size) where
+    (r : PartsPlaced at s lent t heads rows inverse local ps cs size) where
   abbrev bones : List (Bone Place)
   bones = bonesOf (s .bones) t
 
@@ -221,5 +222,5 @@ module _ {s : Sizes} {lent : Section} {t heads rows inverse local ps cs : List �
       pub size-is : (free : Words4) → length (layout (named lent (bonesOf (s .bones) t)) free) ≡ m
       size-is free = length-layout lent t (s .bones) at (h .good) placed-as free ∙ rw (em, h .childrenIs)
 
-      pub ready : {size : ℕ} → s .children ≤ 65535 → m ≤ size → Ready at s lent t heads rows inverse local ps cs size
+      pub ready : {size : ℕ} → s .children ≤ 65535 → m ≤ size → PartsPlaced at s lent t heads rows inverse local ps cs size
       ready k l = record { held = h; kidsFew = k; placed = placed-as; fits = omega (arith, em) }

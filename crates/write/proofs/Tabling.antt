@@ -17,28 +17,31 @@ use Rattle.format.specs.Matrices.{inverses, locals}
 use Rattle.format.specs.Rows.{entryWords, laid, bonesOf}
 use Rattle.tables.specs.Outcome.{derived, leaves}
 use Rattle.tables.proofs.Outcome.{both-true}
-use Rattle.derive.specs.Tagging.{tagsHold, tagsResult, taggedOf}
-use Rattle.derive.specs.Indexing.{indicesHold, indicesResult, indexedOf, childrenOf}
-use Rattle.derive.proofs.Rooms as rooms
-use Rattle.derive.specs.declared.tags.Tagged.{Tagged}
-use Rattle.derive.specs.declared.tags.Tagged.the-variants as tagged
-use Rattle.derive.specs.declared.indices.Indexed.{Indexed}
-use Rattle.derive.specs.declared.indices.Indexed.the-variants as indexed
+use Rattle.derive_chains.specs.Tagging.{tagsHold, tagsResult, taggedOf}
+use Rattle.derive_children.specs.Indexing.{indicesHold, indicesResult, indexedOf, childrenOf}
+use Rattle.tables.proofs.Rooms as rooms
+use Rattle.derive_chains.proofs.TagsOutcome.{enough-tags}
+use Rattle.derive_children.proofs.IndicesOutcome.{enough-indices}
+use Rattle.derive_chains.specs.declared.tags.Tagged.{Tagged}
+use Rattle.derive_chains.specs.declared.tags.Tagged.the-variants as tagged
+use Rattle.derive_children.specs.declared.indices.Indexed.{Indexed}
+use Rattle.derive_children.specs.declared.indices.Indexed.the-variants as indexed
 use Rattle.tables.specs.Outcome.{derived as derived-matrices}
-use Rattle.matrices.specs.Transforming.{matricesHold, matricesResult, transformedOf, MatrixRows}
-use Rattle.matrices.proofs.MatrixRoom.{holds-all}
-use Rattle.matrices.specs.declared.matrices.Transformed.{Transformed}
-use Rattle.matrices.specs.declared.matrices.Transformed.the-variants as transformed
+use Rattle.derive_matrices.specs.Transforming.{matricesHold, matricesResult, transformedOf, MatrixRows}
+use Rattle.derive_matrices.proofs.MatrixRoom.{holds-all}
+use Rattle.derive_matrices.specs.declared.matrices.Transformed.{Transformed}
+use Rattle.derive_matrices.specs.declared.matrices.Transformed.the-variants as transformed
 use Rattle.write.specs.Names.{RowsHere}
 use Rattle.write.specs.Filling.{kidsOf}
 use Rattle.write.specs.Outcome.{derivedIn}
-use Rattle.write.specs.Working.{Tables, roomIn, Derives}
+use Rattle.write.specs.Working.{Derives}
+use Rattle.tables.specs.Working.{Working, roomIn}
 use Rattle.write.specs.declared.working.Derived.the-variants.{Children, Refused}
 
 -- ---- room, by numbers
 
 -- document 01's sizes for n bones, by the tables' words
-abbrev Enough : ℕ → Tables → Type 0
+abbrev Enough : ℕ → Working → Type 0
 Enough n x =
     rooms.Enough n (length (x .buckets)) (length (x .entries)) (length (x .inverse)) (length (x .local)) (length (x .parents))
     (length (x .children)) (length (x .pending))
@@ -78,7 +81,7 @@ laid-fits w m e l = omega (
 still-laid : (w : List ℕ) {b : List ℕ} (m : ℕ) → b ≡ laid w m → length b ≡ m → b ≡ laid w (length b)
 still-laid w m e l = rw l e
 
-module _ (n : ℕ) (t : List ℕ) (x : Tables) (here : RowsHere t n) where
+module _ (n : ℕ) (t : List ℕ) (x : Working) (here : RowsHere t n) where
   -- where a call lacks room, so do the tables
   lacks : (hold : Bool) → (Enough n x → hold ≡ true) → hold ≡ false → derives (roomIn x) n ≡ false
   lacks hold f e = rooms.derives-not n _ _ _ _ _ _ _ (λ h. omega (arith, by (f h) e))
@@ -93,7 +96,7 @@ module _ (n : ℕ) (t : List ℕ) (x : Tables) (here : RowsHere t n) where
   -- ---- `build_bone_tags`
 
   hold-tags : Enough n x → tagsHold n (length t) (length (x .buckets)) (length (x .entries)) ≡ true
-  hold-tags = rooms.enough-tags n _ _ _ _ _ _ _ (length t) (here .rows)
+  hold-tags = enough-tags n _ _ _ _ _ _ _ (length t) (here .rows)
 
   pub tags-stop :
       {r : Tagged} {y : Refusal} → taggedOf r ≡ tagsResult n (length t) (length (x .buckets)) (length (x .entries)) → r ≡
@@ -145,7 +148,7 @@ module _ (n : ℕ) (t : List ℕ) (x : Tables) (here : RowsHere t n) where
   indicesGive = indicesResult n t (length (x .parents)) (length (x .children)) (length (x .pending))
 
   hold-indices : Enough n x → indicesRoom ≡ true
-  hold-indices = rooms.enough-indices n _ _ _ _ _ _ _ (length t) (here .rows)
+  hold-indices = enough-indices n _ _ _ _ _ _ _ (length t) (here .rows)
 
   pub indices-stop :
       {r : Indexed} {y : Refusal} → indexedOf r ≡ indicesGive → r ≡ indexed.Refused y → refused (number y) ≡ derivedIn (roomIn
@@ -185,7 +188,7 @@ module _ (n : ℕ) (t : List ℕ) (x : Tables) (here : RowsHere t n) where
         pending = leb-true (2 * (4 * (n + 1))) (length (x .pending)) (c₁ .1);
       }
 
-  pub record Same (y : Tables) : Type 0 where
+  pub record Same (y : Working) : Type 0 where
     pub buckets : length (y .buckets) ≡ length (x .buckets)
     pub entries : length (y .entries) ≡ length (x .entries)
     pub inverse : length (y .inverse) ≡ length (x .inverse)
@@ -195,7 +198,7 @@ module _ (n : ℕ) (t : List ℕ) (x : Tables) (here : RowsHere t n) where
 
   -- what the calls left, where none refused
   pub all-derived :
-      {r₁ : Tagged} {c : ℕ} {r₂ : Transformed} {r₃ : Indexed} {k : ℕ} (y : Tables)
+      {r₁ : Tagged} {c : ℕ} {r₂ : Transformed} {r₃ : Indexed} {k : ℕ} (y : Working)
       (e₁ : taggedOf r₁ ≡ tagsResult n (length t) (length (x .buckets)) (length (x .entries))) (q₁ : r₁ ≡ tagged.Done c)
       (e₂ : transformedOf r₂ ≡ matricesResult n (length t) (length (x .inverse)) (length (x .local))) (q₂ : r₂ ≡ transformed.Done)
       (e₃ : indexedOf r₃ ≡ indicesGive) (q₃ : r₃ ≡ indexed.Done k)
@@ -239,5 +242,5 @@ module _ (n : ℕ) (t : List ℕ) (x : Tables) (here : RowsHere t n) where
       }
 
   -- a refusal of any call
-  pub derived-stops : {y : Refusal} (z : Tables) → refused (number y) ≡ derivedIn (roomIn x) n t → Derives n t (Refused y) x z
+  pub derived-stops : {y : Refusal} (z : Working) → refused (number y) ≡ derivedIn (roomIn x) n t → Derives n t (Refused y) x z
   derived-stops z e = record { answer = e; rows = tt }

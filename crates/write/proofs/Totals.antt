@@ -13,8 +13,8 @@ use Rattle.format.specs.Field.{Each}
 use Rattle.format.specs.Chains.{ladder, firstAbove, numHashBuckets, bucketCount, entryCount, Entry}
 use Rattle.format.specs.Chains.{keepIf, keep, falling, inBucket, chain, upFrom, chains}
 use Rattle.format.specs.Layout.{entryTotal}
-use Rattle.derive.proofs.Counts.{few-buckets, few-entries, many-entries, buckets-positive}
-use Rattle.derive.proofs.Tagging.{length-up-from}
+use Rattle.derive_chains.proofs.Counts.{few-buckets, few-entries, many-entries, buckets-positive}
+use Rattle.derive_chains.proofs.Tagging.{length-up-from}
 
 -- ---- how many buckets there are
 

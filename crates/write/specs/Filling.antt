@@ -79,7 +79,7 @@ pub record Held (s : Sizes) (lent : Section) (t heads rows inverse local ps cs :
   pub childrenAre : cs ≡ laid (kidsOf (bonesOf (s .bones) t)) (length cs)
 
 -- The parts are placed, and the buffer has room.
-pub record Ready
+pub record PartsPlaced
     (at : Starts) (s : Sizes) (lent : Section) (t heads rows inverse local ps cs : List ℕ) (size : ℕ) : Type 0 where
   pub held : Held s lent t heads rows inverse local ps cs
   pub kidsFew : s .children ≤ 65535

@@ -5,4 +5,4 @@ pub mod Names
 pub mod Filling
 pub mod Outcome
 pub mod Working
-pub mod Checks
+pub mod Tests

@@ -7,22 +7,22 @@ use lib.Seq.{sets}
 use Rattle.format.specs.Field.{wordBytes, Item, _⊳_}
 use Rattle.format.specs.Chains.{Entry, entryOf}
 use Rattle.format.specs.Layout.{base, after, pointer, pointers, entryTotal, entryBytes, pad16}
-use Rattle.write.specs.Placing.{window}
+use Rattle.format.specs.Section.{window}
 
 -- an entry in front of one at an address, or of none where the link is 0
 abbrev pub entryItems : ℕ → ℕ → ℕ → ℕ → List Item
 entryItems at tag position link = 4 ⊳ tag ∷ 4 ⊳ position ∷ 8 ⊳ pointer at link ∷ []
 
 -- at most k entries along the links of the rows: a link is 0 or one more than a row, and a row is a tag, a position and a link
-unfoldable pub follow : List ℕ → ℕ → ℕ → List Entry
-follow rows zero link = []
-follow rows (suc k) zero = []
-follow rows (suc k) (suc p) =
-    entryOf (getD rows (3 * p) 0) (getD rows (3 * p + 1) 0) ∷ follow rows k (getD rows (3 * p + 2) 0)
+unfoldable pub followRows : List ℕ → ℕ → ℕ → List Entry
+followRows rows zero link = []
+followRows rows (suc k) zero = []
+followRows rows (suc k) (suc p) =
+    entryOf (getD rows (3 * p) 0) (getD rows (3 * p + 1) 0) ∷ followRows rows k (getD rows (3 * p + 2) 0)
 
 -- the chain from a link on; where links fall, it has at most as many entries as the link says
 abbrev pub linked : List ℕ → ℕ → List Entry
-linked rows link = follow rows link link
+linked rows link = followRows rows link link
 
 -- every link leads to an earlier row
 abbrev pub LinksFall : List ℕ → Type 0

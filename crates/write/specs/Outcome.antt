@@ -13,6 +13,7 @@ use Rattle.format.specs.Deriving.{DeriveRoom, derives}
 use Rattle.format.specs.Rows.{boneWidth, bonesOf}
 use Rattle.format.specs.Layout.{Bytes, layout}
 use Rattle.format.specs.Write.{named, written}
+use Rattle.tables.specs.Outcome.{sizeOf}
 use Rattle.write.specs.Names.{namesResult}
 use Rattle.write.specs.Filling.{kidsOf}
 use Rattle.write.specs.declared.Written.{Written}
@@ -33,18 +34,14 @@ abbrev pub writtenOf : Written → Res ℕ
 writtenOf (written-as.Done n) = done n
 writtenOf (written-as.Refused r) = refused (number r)
 
-abbrev pub sizeOf : Res Bytes → Res ℕ
-sizeOf (refused c) = refused c
-sizeOf (done b) = done (length b)
-
 -- the buffer: the section's own bytes at its front, and nothing else changed; after a refusal as it was
-abbrev pub leaves : Res Bytes → List ℕ → List ℕ
-leaves (refused c) out = out
-leaves (done b) out = sets out 0 b
+abbrev pub writeLeaves : Res Bytes → List ℕ → List ℕ
+writeLeaves (refused c) out = out
+writeLeaves (done b) out = sets out 0 b
 
 pub record Writes (w : Res Bytes) (r : Written) (out out′ : List ℕ) : Type 0 where
   pub answer : writtenOf r ≡ sizeOf w
-  pub buffer : out′ ≡ leaves w out
+  pub buffer : out′ ≡ writeLeaves w out
 
 -- ---- its steps
 

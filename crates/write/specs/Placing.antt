@@ -2,15 +2,11 @@
 -- Definitions only.
 use Prim.Native.Nat.{ℕ, _+_, _*_, _≤_, min}
 use mathlib.Core.List.{List, [], _∷_}
+use Rattle.format.specs.Section.{window}
 use Rattle.format.specs.Bone.{Words4, words4}
 use Rattle.format.specs.Layout as Layout
 use Rattle.format.specs.Layout.{base, pointer}
-use Rattle.write.specs.declared.Free.{Free}
 use Rattle.write.specs.declared.starts.Starts.{Starts}
-
--- every offset is below this
-abbrev pub window : ℕ
-window = 0x1000_0000
 
 -- at most 65,535 bones and their entries, as many buckets, and names of 256 bytes each
 pub record Counts (buckets entries n names : ℕ) : Type 0 where
@@ -33,9 +29,6 @@ meantStarts s =
       parents = s .parents;
       children = s .children;
     }
-
-abbrev pub meantFree : Free → Words4
-meantFree f = words4 (f .x) (f .y) (f .z) (f .w)
 
 -- ---- the skeleton's record
 

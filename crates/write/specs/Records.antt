@@ -8,7 +8,7 @@ use Rattle.format.specs.Section.{Place}
 use Rattle.format.specs.Bone.{Bone}
 use Rattle.format.specs.Rows.{boneWidth, boneOf, bonesOf}
 use Rattle.format.specs.Layout.{Bytes, pointer, boneItems, blockSize}
-use Rattle.write.specs.Placing.{window}
+use Rattle.format.specs.Section.{window}
 
 -- the bytes that a name takes, with the zero behind it
 abbrev pub takes : Option Place → ℕ

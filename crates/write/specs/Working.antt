@@ -7,34 +7,20 @@ use Rattle.format.specs.Result.{Res, refused, done}
 use Rattle.format.specs.Refusal.{number}
 use Rattle.format.specs.Chains.{bucketCount, entryCount}
 use Rattle.format.specs.Matrices.{inverses, locals}
-use Rattle.format.specs.Deriving.{tags, parents, DeriveRoom, bucketRows, entryRows}
-use Rattle.format.specs.Rows.{entryWords, laid, bonesOf, cleared}
-use Rattle.derive.specs.Rooms.{roomOf}
+use Rattle.format.specs.Deriving.{tags, parents, bucketRows, entryRows}
+use Rattle.format.specs.Rows.{entryWords, laid, bonesOf}
+use Rattle.tables.specs.Working.{Working, roomIn}
 use Rattle.write.specs.Filling.{kidsOf}
 use Rattle.write.specs.Outcome.{derivedIn}
 use Rattle.write.specs.declared.working.Derived.{Derived}
 use Rattle.write.specs.declared.working.Derived.the-variants.{Children, Refused}
-
--- the working tables
-pub record Tables : Type 0 where
-  pub buckets : List ℕ
-  pub entries : List ℕ
-  pub inverse : List ℕ
-  pub local : List ℕ
-  pub parents : List ℕ
-  pub children : List ℕ
-  pub pending : List ℕ
-
-abbrev pub tables : List ℕ → List ℕ → List ℕ → List ℕ → List ℕ → List ℕ → List ℕ → Tables
-tables b e i l p c q =
-    record { buckets = b; entries = e; inverse = i; local = l; parents = p; children = c; pending = q }
 
 abbrev pub derivedOf : Derived → Res ℕ
 derivedOf (Children k) = done k
 derivedOf (Refused r) = refused (number r)
 
 -- the tables hold what follows from the first n bones of t
-pub record Rows (n : ℕ) (t : List ℕ) (x : Tables) : Type 0 where
+pub record DerivedRows (n : ℕ) (t : List ℕ) (x : Working) : Type 0 where
   pub headsHold : bucketCount n ≤ length (x .buckets)
   pub headsAre : x .buckets ≡ laid (bucketRows (tags (bonesOf n t))) (length (x .buckets))
   pub rowsHold : 3 * entryCount n ≤ length (x .entries)
@@ -49,26 +35,10 @@ pub record Rows (n : ℕ) (t : List ℕ) (x : Tables) : Type 0 where
   pub childrenAre : x .children ≡ laid (kidsOf (bonesOf n t)) (length (x .children))
 
 -- nothing is said of the tables after a refusal
-abbrev pub HeldBy : Derived → ℕ → List ℕ → Tables → Type 0
-HeldBy (Children k) n t x = Rows n t x
+abbrev pub HeldBy : Derived → ℕ → List ℕ → Working → Type 0
+HeldBy (Children k) n t x = DerivedRows n t x
 HeldBy (Refused r) n t x = Unit
 
--- the rooms of the tables, in rows
-abbrev pub roomIn : Tables → DeriveRoom
-roomIn x =
-    roomOf (length (x .buckets)) (length (x .entries)) (length (x .inverse)) (length (x .local)) (length (x .parents))
-    (length (x .children)) (length (x .pending))
-
-pub record Derives (n : ℕ) (t : List ℕ) (r : Derived) (x₀ x : Tables) : Type 0 where
+pub record Derives (n : ℕ) (t : List ℕ) (r : Derived) (x₀ x : Working) : Type 0 where
   pub answer : derivedOf r ≡ derivedIn (roomIn x₀) n t
   pub rows : HeldBy r n t x
-
--- every working table is zero
-pub record Zeroed (x₀ x : Tables) : Type 0 where
-  pub buckets : x .buckets ≡ cleared (length (x₀ .buckets))
-  pub entries : x .entries ≡ cleared (length (x₀ .entries))
-  pub inverse : x .inverse ≡ cleared (length (x₀ .inverse))
-  pub local : x .local ≡ cleared (length (x₀ .local))
-  pub parents : x .parents ≡ cleared (length (x₀ .parents))
-  pub children : x .children ≡ cleared (length (x₀ .children))
-  pub pending : x .pending ≡ cleared (length (x₀ .pending))

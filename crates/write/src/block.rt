@@ -9,8 +9,8 @@ ghost use Rattle.format.specs.Rows.{boneOf, bonesOf};
 ghost use Rattle.write.specs.Records.{ShortName, takes, boneRecord, records, block, BonesRoom, BlockRoom};
 use crate::starts::pointer;
 use crate::words::put_words;
-use bones::BONE_WORDS;
-use bones::name_at;
+use format::BONE_WORDS;
+use rows::name_at;
 
 // Row p of a table, its 21 words and no others, so that no reader tests for bounds.
 pub(crate) fn row_in<'a>(t: &'a [u32], p: usize) -> &'a [u32]
@@ -39,22 +39,22 @@ fn bone_record(row: &[u32], name: u32) -> [u32; 20]
     requires { ⌜ 21 ≤ length (now row) ⌝ }
     ensures answer { λ r. ⌜ r ≡ boneRecord (now (row .entry)) name ⌝ }
 {
-    let marks = row[11];
-    let tags = row[12] % 65536 + marks / 65536 * 65536;
+    let marks = row[format::FLAGS_AND_INDEX];
+    let tags = row[format::TAG] % 65536 + marks / 65536 * 65536;
     [
-        row[0],
-        row[1],
-        row[2],
-        row[3],
-        row[4],
-        row[5],
-        row[6],
+        row[format::ROTATION_X],
+        row[format::ROTATION_Y],
+        row[format::ROTATION_Z],
+        row[format::ROTATION_W],
+        row[format::TRANSLATION_X],
+        row[format::TRANSLATION_Y],
+        row[format::TRANSLATION_Z],
         0,
-        row[7],
-        row[8],
-        row[9],
+        row[format::SCALE_X],
+        row[format::SCALE_Y],
+        row[format::SCALE_Z],
         0x3F80_0000,
-        row[10],
+        row[format::SIBLING_AND_PARENT],
         0,
         name,
         0,

@@ -6,15 +6,12 @@ ghost use lib.Seq.{sets};
 ghost use Rattle.format.specs.Field.{bytes, lay, wordBytes};
 ghost use Rattle.format.specs.Layout as Layout;
 ghost use Rattle.format.specs.Layout.{base, chainBytes, pad16};
-ghost use Rattle.write.specs.Placing.{window};
+ghost use Rattle.format.specs.Section.{window};
 ghost use Rattle.write.specs.Linked.{entryItems, linked, ChainRoom, ChainsRoom, ChainsLaid};
 use crate::starts::fill;
 use crate::starts::pointer;
 use crate::words::put_words;
 use crate::words::put_zeros;
-
-// the width of an entry's row in words
-const ENTRY_WORDS: usize = 3;
 
 // Stores an entry in front of one that lies right behind it, or of none where `link` is 0.
 fn put_entry(d: &mut [u8], at: usize, tag: u32, position: u32, link: u32)
@@ -35,9 +32,15 @@ fn put_chain(d: &mut [u8], at: usize, entries: &[u32], link: u32) -> usize
     let mut to = at;
     let mut l = link;
     while l != 0 {
-        let row = ENTRY_WORDS * (l as usize - 1);
-        let next = entries[row + 2];
-        put_entry(d, to, entries[row], entries[row + 1], next);
+        let row = format::ENTRY_WORDS * (l as usize - 1);
+        let next = entries[row + format::ENTRY_LINK];
+        put_entry(
+            d,
+            to,
+            entries[row],
+            entries[row + format::ENTRY_POSITION],
+            next,
+        );
         to += format::ENTRY_SIZE;
         l = next;
     }

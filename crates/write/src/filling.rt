@@ -8,10 +8,10 @@ ghost use Rattle.format.specs.Rows.{bonesOf};
 ghost use Rattle.format.specs.Layout.{base, after, pad16, allNames, layout};
 ghost use Rattle.format.specs.Write.{named};
 ghost use Rattle.blocks.specs.Places.{section};
-ghost use Rattle.write.specs.Placing.{meantStarts, meantFree};
+ghost use Rattle.write.specs.Placing.{meantStarts};
+ghost use Rattle.format.specs.Words.{meantWords4};
 ghost use Rattle.write.specs.Records.{block};
-ghost use Rattle.write.specs.Filling.{NamesPart, BonesPart, ListsRoom, listsStored, bonesStored, Ready};
-use crate::Free;
+ghost use Rattle.write.specs.Filling.{NamesPart, BonesPart, ListsRoom, listsStored, bonesStored, PartsPlaced};
 use crate::block::put_block;
 use crate::chains::put_chains;
 use crate::names::put_names;
@@ -21,9 +21,7 @@ use crate::starts::fill;
 use crate::words::put_halves;
 use crate::words::put_words;
 use crate::words::put_zeros;
-
-// the width of a matrix in words
-const MATRIX_WORDS: usize = 16;
+use format::Words4;
 
 // How many there are of what.
 pub struct Sizes {
@@ -103,7 +101,7 @@ fn fill_lists(
         (take n (now (parents .entry))) (take k (now (children .entry))) (now (d .entry))
         ⌝ }
 {
-    let m = MATRIX_WORDS * n;
+    let m = format::MATRIX_WORDS * n;
     put_words(d, at.inverse, &inverse[..m]);
     put_words(d, at.local, &local[..m]);
     put_list(d, at.parents, &parents[..n]);
@@ -114,7 +112,7 @@ fn fill_lists(
 pub(crate) fn fill_section<'a>(
     d: &mut [u8],
     at: Starts,
-    free: Free,
+    free: Words4,
     s: Sizes,
     bones: &[u32],
     sys: &'a [u8],
@@ -127,13 +125,13 @@ pub(crate) fn fill_section<'a>(
     children: &[u16],
 )
     requires { ⌜
-        Ready (meantStarts at) s (section (now sys) (now gfx)) (now bones) (now buckets) (now entries) (now inverse) (now local)
+        PartsPlaced (meantStarts at) s (section (now sys) (now gfx)) (now bones) (now buckets) (now entries) (now inverse) (now local)
         (now parents) (now children) (length (now d))
         ⌝ }
     ensures bytes { λ _.
         let lent = section (now (sys .entry)) (now (gfx .entry)) in
         let bs = bonesOf (s .bones) (now (bones .entry)) in
-        ⌜ now (d .exit) ≡ sets (now (d .entry)) 0 (layout (named lent bs) (meantFree free)) ⌝ }
+        ⌜ now (d .exit) ≡ sets (now (d .entry)) 0 (layout (named lent bs) (meantWords4 free)) ⌝ }
 {
     put_skeleton(d, at, free, s.bones, s.buckets, s.children);
     put_chains(d, at.buckets, at.entries, s.buckets, buckets, entries);

@@ -13,20 +13,13 @@ ghost use mathlib.Core.Path.{_≡_};
 ghost use Prim.Native.Nat.{_≤_};
 ghost use lib.ListN.{length};
 ghost use Rattle.blocks.specs.Places.{section};
-ghost use Rattle.write.specs.Placing.{meantFree};
+ghost use Rattle.format.specs.Words.{meantWords4};
 ghost use Rattle.write.specs.Outcome.{outcome, Writes};
-ghost use Rattle.write.specs.Working.{tables, roomIn, Zeroed};
+ghost use Rattle.tables.specs.Working.{working, roomIn, Zeroed};
 use crate::outcome::attempt;
 use crate::working::clear_tables;
 use format::Refusal;
-
-// The four words of the skeleton that are free, as they stand in its record.
-pub struct Free {
-    pub x: u32,
-    pub y: u32,
-    pub z: u32,
-    pub w: u32,
-}
+use format::Words4;
 
 // The answer of the writer.
 pub enum Written {
@@ -43,7 +36,7 @@ pub fn write<'a>(
     n: usize,
     sys: &'a [u8],
     gfx: &'a [u8],
-    free: Free,
+    free: Words4,
     buckets: &mut [u32],
     entries: &mut [u32],
     inverse: &mut [u32],
@@ -54,20 +47,20 @@ pub fn write<'a>(
     out: &mut [u8],
 ) -> Written
     ensures written { λ r.
-        let x = tables (now (buckets .entry)) (now (entries .entry)) (now (inverse .entry)) (now (local .entry))
+        let x = working (now (buckets .entry)) (now (entries .entry)) (now (inverse .entry)) (now (local .entry))
         (now (parents .entry)) (now (children .entry)) (now (pending .entry)) in
         ⌜
         Writes
         (outcome (section (now (sys .entry)) (now (gfx .entry))) (roomIn x) (length (now (out .entry))) n (now (bones .entry))
-        (meantFree free))
+        (meantWords4 free))
         r (now (out .entry)) (now (out .exit))
         ⌝ }
     ensures tables { λ _.
         ⌜
         Zeroed
-        (tables (now (buckets .entry)) (now (entries .entry)) (now (inverse .entry)) (now (local .entry))
+        (working (now (buckets .entry)) (now (entries .entry)) (now (inverse .entry)) (now (local .entry))
         (now (parents .entry)) (now (children .entry)) (now (pending .entry)))
-        (tables (now (buckets .exit)) (now (entries .exit)) (now (inverse .exit)) (now (local .exit))
+        (working (now (buckets .exit)) (now (entries .exit)) (now (inverse .exit)) (now (local .exit))
         (now (parents .exit)) (now (children .exit)) (now (pending .exit)))
         ⌝ }
 {

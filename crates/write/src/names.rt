@@ -17,7 +17,7 @@ use crate::words::put_at_least;
 use crate::words::put_zeros;
 use blocks::places::Located;
 use blocks::places::locate;
-use bones::name_at;
+use rows::name_at;
 
 // What the names come to.
 pub enum Measured {

@@ -3,13 +3,12 @@ ghost use mathlib.Core.Path.{_≡_};
 ghost use lib.ListN.{length};
 ghost use Rattle.format.specs.Rows.{bonesOf};
 ghost use Rattle.blocks.specs.Places.{section};
-ghost use Rattle.write.specs.Placing.{meantFree};
+ghost use Rattle.format.specs.Words.{meantWords4};
 ghost use Rattle.write.specs.Names.{RowsHere};
 ghost use Rattle.write.specs.Filling.{Held};
 ghost use Rattle.write.specs.Outcome.{outcome, tested, laidOut, Writes};
-ghost use Rattle.write.specs.Working.{tables, roomIn};
-ghost use Rattle.write.specs.Checks.{checkedOf};
-use crate::Free;
+ghost use Rattle.tables.specs.Working.{working, roomIn};
+ghost use Rattle.write.specs.Tests.{testedOf};
 use crate::Written;
 use crate::filling::Sizes;
 use crate::filling::fill_section;
@@ -19,12 +18,13 @@ use crate::starts::after;
 use crate::starts::place;
 use crate::working::Derived;
 use crate::working::derive_tables;
-use bones::BONE_WORDS;
-use derive::buckets::bucket_count;
-use derive::buckets::entry_count;
+use derive_chains::buckets::bucket_count;
+use derive_chains::buckets::entry_count;
+use format::BONE_WORDS;
 use format::Refusal;
+use format::Words4;
 
-pub enum Checked {
+pub enum Tested {
     // all bones can be written, and their names take this many bytes
     Names(usize),
     // 2; 1 for the table of bones; 4
@@ -32,18 +32,18 @@ pub enum Checked {
 }
 
 // Tests the bones and their names.
-fn check_bones(bones: &[u32], n: usize, sys: &[u8], gfx: &[u8]) -> Checked
-    ensures answer { λ r. ⌜ checkedOf r ≡ tested (section (now (sys .entry)) (now (gfx .entry))) n (now (bones .entry)) ⌝ }
+fn check_bones(bones: &[u32], n: usize, sys: &[u8], gfx: &[u8]) -> Tested
+    ensures answer { λ r. ⌜ testedOf r ≡ tested (section (now (sys .entry)) (now (gfx .entry))) n (now (bones .entry)) ⌝ }
 {
     if n > format::MOST {
-        return Checked::Refused(Refusal::TooManyBones);
+        return Tested::Refused(Refusal::TooManyBones);
     }
     if bones.len() < BONE_WORDS * n {
-        return Checked::Refused(Refusal::TableTooShort);
+        return Tested::Refused(Refusal::TableTooShort);
     }
     match measure_names(bones, n, sys, gfx) {
-        Measured::Bytes(size) => Checked::Names(size),
-        Measured::Bad => Checked::Refused(Refusal::BadName),
+        Measured::Bytes(size) => Tested::Names(size),
+        Measured::Bad => Tested::Refused(Refusal::BadName),
     }
 }
 
@@ -52,7 +52,7 @@ fn lay_out<'a>(
     bones: &[u32],
     sys: &'a [u8],
     gfx: &'a [u8],
-    free: Free,
+    free: Words4,
     s: Sizes,
     buckets: &[u32],
     entries: &[u32],
@@ -71,7 +71,7 @@ fn lay_out<'a>(
         Writes
         (laidOut (section (now (sys .entry)) (now (gfx .entry))) (length (now (out .entry)))
         (bonesOf (s .bones) (now (bones .entry)))
-        (meantFree free))
+        (meantWords4 free))
         r (now (out .entry)) (now (out .exit))
         ⌝ }
 {
@@ -107,7 +107,7 @@ pub(crate) fn attempt<'a>(
     n: usize,
     sys: &'a [u8],
     gfx: &'a [u8],
-    free: Free,
+    free: Words4,
     buckets: &mut [u32],
     entries: &mut [u32],
     inverse: &mut [u32],
@@ -118,18 +118,18 @@ pub(crate) fn attempt<'a>(
     out: &mut [u8],
 ) -> Written
     ensures written { λ r.
-        let x = tables (now (buckets .entry)) (now (entries .entry)) (now (inverse .entry)) (now (local .entry))
+        let x = working (now (buckets .entry)) (now (entries .entry)) (now (inverse .entry)) (now (local .entry))
         (now (parents .entry)) (now (children .entry)) (now (pending .entry)) in
         ⌜
         Writes
         (outcome (section (now (sys .entry)) (now (gfx .entry))) (roomIn x) (length (now (out .entry))) n (now (bones .entry))
-        (meantFree free))
+        (meantWords4 free))
         r (now (out .entry)) (now (out .exit))
         ⌝ }
 {
     let size = match check_bones(bones, n, sys, gfx) {
-        Checked::Names(size) => size,
-        Checked::Refused(r) => return Written::Refused(r),
+        Tested::Names(size) => size,
+        Tested::Refused(r) => return Written::Refused(r),
     };
     let count = match derive_tables(
         bones,

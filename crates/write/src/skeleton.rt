@@ -5,11 +5,12 @@ ghost use lib.ListN.{length};
 ghost use lib.Seq.{sets};
 ghost use Rattle.format.specs.Field.{lay};
 ghost use Rattle.format.specs.Layout.{skeletonItems};
-ghost use Rattle.write.specs.Placing.{SkeletonCounts, meantStarts, meantFree, skeletonWords};
-use crate::Free;
+ghost use Rattle.write.specs.Placing.{SkeletonCounts, meantStarts, skeletonWords};
+ghost use Rattle.format.specs.Words.{meantWords4};
 use crate::starts::Starts;
 use crate::starts::pointer;
 use crate::words::put_words;
+use format::Words4;
 
 // Two 16-bit numbers in one word, the first in the lower half.
 fn halves(lo: usize, hi: usize) -> u32
@@ -30,9 +31,9 @@ fn lesser(a: usize, b: usize) -> usize
 }
 
 // The words of the record of n bones, c buckets and k child entries.
-fn skeleton_words(at: Starts, free: Free, n: usize, c: usize, k: usize) -> [u32; 28]
+fn skeleton_words(at: Starts, free: Words4, n: usize, c: usize, k: usize) -> [u32; 28]
     requires { ⌜ SkeletonCounts (meantStarts at) n c k ⌝ }
-    ensures answer { λ r. ⌜ r ≡ skeletonWords (meantStarts at) (meantFree free) n c k ⌝ }
+    ensures answer { λ r. ⌜ r ≡ skeletonWords (meantStarts at) (meantWords4 free) n c k ⌝ }
 {
     let buckets = pointer(at.buckets, c);
     let bones = pointer(at.bones + format::BLOCK_HEADER_SIZE, n);
@@ -75,9 +76,9 @@ fn skeleton_words(at: Starts, free: Free, n: usize, c: usize, k: usize) -> [u32;
 }
 
 // Stores the record at the buffer's start.
-pub(crate) fn put_skeleton(d: &mut [u8], at: Starts, free: Free, n: usize, c: usize, k: usize)
+pub(crate) fn put_skeleton(d: &mut [u8], at: Starts, free: Words4, n: usize, c: usize, k: usize)
     requires { ⌜ SkeletonCounts (meantStarts at) n c k × (112 ≤ length (now d)) ⌝ }
-    ensures bytes { λ _. ⌜ now (d .exit) ≡ sets (now (d .entry)) 0 (lay (skeletonItems (meantStarts at) (meantFree free) n c k)) ⌝ }
+    ensures bytes { λ _. ⌜ now (d .exit) ≡ sets (now (d .entry)) 0 (lay (skeletonItems (meantStarts at) (meantWords4 free) n c k)) ⌝ }
 {
     let w = skeleton_words(at, free, n, c, k);
     put_words(d, 0, &w);

@@ -3,7 +3,8 @@ ghost use mathlib.Core.Path.{_≡_};
 ghost use Prim.Native.Nat.{_+_, _≤_, _<_};
 ghost use Rattle.format.specs.Layout as Layout;
 ghost use Rattle.format.specs.Layout.{base, blockSize};
-ghost use Rattle.write.specs.Placing.{window, Counts, meantStarts};
+ghost use Rattle.write.specs.Placing.{Counts, meantStarts};
+ghost use Rattle.format.specs.Section.{window};
 
 // How far into the section each part starts.
 pub struct Starts {

@@ -3,48 +3,19 @@ ghost use mathlib.Core.Path.{_≡_};
 ghost use Prim.Native.Nat.{_+_, _*_, _≤_};
 ghost use lib.ListN.{length, take, drop, replicate};
 ghost use lib.Seq.{sets};
-ghost use Rattle.format.specs.Field.{bytes, wordBytes};
+ghost use Rattle.format.specs.Field.{wordBytes};
 ghost use Rattle.write.specs.Names.{StoredTo};
+use fields::runs;
 
 // Names are mostly shorter: so many bytes are tested or stored at once.
 pub(crate) const CHUNK: usize = 32;
-
-// One word.
-fn put_word(d: &mut [u8], at: usize, w: u32)
-    requires { ⌜ at + 4 ≤ length (now d) ⌝ }
-    ensures bytes { λ _. ⌜ now (d .exit) ≡ sets (now (d .entry)) at (bytes 4 w) ⌝ }
-{
-    let b0 = (w % 256) as u8;
-    let b1 = (w / 256 % 256) as u8;
-    let b2 = (w / 65536 % 256) as u8;
-    let b3 = (w / 16777216) as u8;
-    d[at] = b0;
-    d[at + 1] = b1;
-    d[at + 2] = b2;
-    d[at + 3] = b3;
-}
-
-// One 16-bit number.
-fn put_half(d: &mut [u8], at: usize, h: u16)
-    requires { ⌜ at + 2 ≤ length (now d) ⌝ }
-    ensures bytes { λ _. ⌜ now (d .exit) ≡ sets (now (d .entry)) at (bytes 2 h) ⌝ }
-{
-    let b0 = (h % 256) as u8;
-    let b1 = (h / 256) as u8;
-    d[at] = b0;
-    d[at + 1] = b1;
-}
 
 // Words, four bytes for each.
 pub(crate) fn put_words(d: &mut [u8], at: usize, w: &[u32])
     requires { ⌜ at + 4 * length (now w) ≤ length (now d) ⌝ }
     ensures bytes { λ _. ⌜ now (d .exit) ≡ sets (now (d .entry)) at (wordBytes 4 (now (w .entry))) ⌝ }
 {
-    let mut i = 0;
-    while i < w.len() {
-        put_word(d, at + 4 * i, w[i]);
-        i += 1;
-    }
+    runs::put_words(d, at, w);
 }
 
 // 16-bit numbers, two bytes for each.
@@ -52,11 +23,7 @@ pub(crate) fn put_halves(d: &mut [u8], at: usize, h: &[u16])
     requires { ⌜ at + 2 * length (now h) ≤ length (now d) ⌝ }
     ensures bytes { λ _. ⌜ now (d .exit) ≡ sets (now (d .entry)) at (wordBytes 2 (now (h .entry))) ⌝ }
 {
-    let mut i = 0;
-    while i < h.len() {
-        put_half(d, at + 2 * i, h[i]);
-        i += 1;
-    }
+    runs::put_halves(d, at, h);
 }
 
 // k bytes, those of s from `from` on.

@@ -1,14 +1,15 @@
 // The writer's working tables: derived from the bones, and cleared.
 ghost use mathlib.Core.Path.{_≡_};
-ghost use Rattle.write.specs.Working.{tables, Derives, Zeroed};
+ghost use Rattle.write.specs.Working.{Derives};
+ghost use Rattle.tables.specs.Working.{working, Zeroed};
 ghost use Rattle.write.specs.Names.{RowsHere};
-use derive::indices::Indexed;
-use derive::indices::build_indices;
-use derive::tags::Tagged;
-use derive::tags::build_bone_tags;
+use derive_chains::tags::Tagged;
+use derive_chains::tags::build_bone_tags;
+use derive_children::indices::Indexed;
+use derive_children::indices::build_indices;
+use derive_matrices::matrices::Transformed;
+use derive_matrices::matrices::build_transformations;
 use format::Refusal;
-use matrices::matrices::Transformed;
-use matrices::matrices::build_transformations;
 use tables::clear16;
 use tables::clear32;
 
@@ -35,9 +36,9 @@ pub(crate) fn derive_tables(
     ensures tables { λ r.
         ⌜
         Derives n (now (bones .entry)) r
-        (tables (now (buckets .entry)) (now (entries .entry)) (now (inverse .entry)) (now (local .entry))
+        (working (now (buckets .entry)) (now (entries .entry)) (now (inverse .entry)) (now (local .entry))
         (now (parents .entry)) (now (children .entry)) (now (pending .entry)))
-        (tables (now (buckets .exit)) (now (entries .exit)) (now (inverse .exit)) (now (local .exit))
+        (working (now (buckets .exit)) (now (entries .exit)) (now (inverse .exit)) (now (local .exit))
         (now (parents .exit)) (now (children .exit)) (now (pending .exit)))
         ⌝ }
 {
@@ -67,9 +68,9 @@ pub(crate) fn clear_tables(
     ensures tables { λ _.
         ⌜
         Zeroed
-        (tables (now (buckets .entry)) (now (entries .entry)) (now (inverse .entry)) (now (local .entry))
+        (working (now (buckets .entry)) (now (entries .entry)) (now (inverse .entry)) (now (local .entry))
         (now (parents .entry)) (now (children .entry)) (now (pending .entry)))
-        (tables (now (buckets .exit)) (now (entries .exit)) (now (inverse .exit)) (now (local .exit))
+        (working (now (buckets .exit)) (now (entries .exit)) (now (inverse .exit)) (now (local .exit))
         (now (parents .exit)) (now (children .exit)) (now (pending .exit)))
         ⌝ }
 {

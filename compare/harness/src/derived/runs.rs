@@ -4,7 +4,7 @@ use super::input::{Call, DeriveInput, MOST};
 use super::{ours, rust};
 use crate::difference::{compare, Difference, Input, Place};
 use crate::extent::Extent;
-use crate::share::share;
+use crate::share::{share, share_items};
 use crate::tally::{status, Tally};
 use cases::rigs::{chain, rig, rig_of, tree};
 use cases::trial::plain_bone;
@@ -25,7 +25,7 @@ pub fn run(library: &dyn Derive, folder: &Path, seed: u64, extent: Extent, threa
     runs.room(&mut tally, extent)?;
     runs.trial(&mut tally)?;
     if extent > Extent::Test {
-        runs.sizes(&mut tally)?;
+        tally.merge(&runs.sizes(threads)?);
     }
     if extent == Extent::Long {
         runs.exact(&mut tally, Indices, &tree(&mut Rng::new(seed), MOST))?;
@@ -151,24 +151,18 @@ impl Runs<'_> {
 
     /// Rigs of the counts at which the ladder or the format turns. Above 2,000 bones no index comes twice: the
     /// published child list would take memory with the square of the count.
-    fn sizes(&self, tally: &mut Tally) -> Result<(), Difference> {
+    fn sizes(&self, threads: u64) -> Result<Tally, Difference> {
         let mut rng = Rng::new(self.seed);
-        for (n, rigs) in [(0, 2), (1, 50), (2, 50), (10, 50), (11, 50), (28, 50), (29, 50), (800, 30)] {
-            for _ in 0..rigs {
-                let bones = rig_of(&mut rng, n);
-                CALLS.iter().try_for_each(|&call| self.exact(tally, call, &bones))?;
-            }
+        let mut rigs: Vec<(&[Call], Vec<Bone>)> = Vec::new();
+        for (n, count) in [(0, 2), (1, 50), (2, 50), (10, 50), (11, 50), (28, 50), (29, 50), (800, 30)] {
+            rigs.extend((0..count).map(|_| (&CALLS[..], rig_of(&mut rng, n))));
         }
-        for bones in [tree(&mut rng, 10_000), chain(&mut rng, 10_000)] {
-            CALLS.iter().try_for_each(|&call| self.exact(tally, call, &bones))?;
-        }
+        rigs.extend([tree(&mut rng, 10_000), chain(&mut rng, 10_000)].map(|bones| (&CALLS[..], bones)));
         for n in [MOST - 1, MOST] {
-            let bones = tree(&mut rng, n);
-            [Tags, Matrices].iter().try_for_each(|&call| self.exact(tally, call, &bones))?;
-            let one_tag: Vec<Bone> = (0..n).map(|_| plain_bone(7, -1)).collect();
-            self.exact(tally, Tags, &one_tag)?;
+            rigs.push((&[Tags, Matrices], tree(&mut rng, n)));
+            rigs.push((&[Tags], (0..n).map(|_| plain_bone(7, -1)).collect()));
         }
-        Ok(())
+        share_items(&rigs, threads, |tally, (calls, bones)| calls.iter().try_for_each(|&call| self.exact(tally, call, bones)))
     }
 
     /// A random rig in each call, its tables as long as they must be, longer, or one of them too short.

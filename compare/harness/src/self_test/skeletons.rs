@@ -15,8 +15,8 @@ pub enum Fault {
     Write(write::Fault),
 }
 
-pub fn faults() -> impl Iterator<Item = Fault> {
-    read::FAULTS.map(Fault::Read).into_iter().chain(write::FAULTS.map(Fault::Write))
+pub fn faults() -> Vec<Fault> {
+    read::FAULTS.map(Fault::Read).into_iter().chain(write::FAULTS.map(Fault::Write)).collect()
 }
 
 /// Faults of reading that show in what was written.

@@ -6,7 +6,7 @@ use super::write::{Published, WriteInput};
 use super::Runs;
 use crate::difference::Difference;
 use crate::extent::Extent;
-use crate::share::share;
+use crate::share::{share, share_items};
 use crate::tally::Tally;
 use cases::rigs::{broad, rig_of};
 use cases::scattered::scattered;
@@ -18,7 +18,7 @@ use oracle::{write, Answer, Bone};
 
 pub fn run(runs: Runs, extent: Extent, threads: u64) -> Result<Tally, Difference> {
     let mut tally = Tally::default();
-    runs.sizes(&mut tally, extent)?;
+    runs.sizes(&mut tally, extent, threads)?;
     runs.truncations(&mut tally, ends_with_bones())?;
     let cut = extent.of([3, 20, 400]);
     let truncations = |tally: &mut Tally, seed| runs.with(seed).truncations(tally, good(&mut Rng::new(seed)).1);
@@ -30,7 +30,7 @@ pub fn run(runs: Runs, extent: Extent, threads: u64) -> Result<Tally, Difference
 
 impl Runs<'_> {
     /// Sections of the counts at which the format turns, each table exact, a row short, a word short and longer.
-    fn sizes(self, tally: &mut Tally, extent: Extent) -> Result<(), Difference> {
+    fn sizes(self, tally: &mut Tally, extent: Extent, threads: u64) -> Result<(), Difference> {
         let mut rng = Rng::new(self.seed);
         let mut rigs: Vec<Vec<Bone>> = [0, 1, 2, 11].map(|n| rig_of(&mut rng, n)).to_vec();
         if extent > Extent::Test {
@@ -48,7 +48,7 @@ impl Runs<'_> {
                 for (table, width) in WIDTHS.into_iter().enumerate() {
                     inputs.extend([-(width as isize), -1, 1].map(|words| exact.with(table, words)));
                 }
-                inputs.iter().try_for_each(|input| self.read(tally, input, &asked).map(drop))?;
+                tally.merge(&share_items(&inputs, threads, |tally, input| self.read(tally, input, &asked).map(drop))?);
             }
         }
         Ok(())

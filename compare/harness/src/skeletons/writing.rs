@@ -22,7 +22,7 @@ pub fn run(runs: Runs, extent: Extent, threads: u64) -> Result<Tally, Difference
     let rigs = extent.of([400, 50_000, 1_000_000]);
     tally.merge(&share(runs.seed, rigs, threads, |tally, seed| runs.with(seed).random(tally))?);
     if extent > Extent::Test {
-        runs.orders(&mut tally)?;
+        runs.orders(&mut tally, threads)?;
     }
     Ok(tally)
 }
@@ -49,13 +49,13 @@ const CONDITIONS: [Condition; 5] = [
 impl Runs<'_> {
     /// All choices of conditions, on bones of 65,528 child entries, which can be written, and of 65,536: the first gives its
     /// number.
-    fn orders(self, tally: &mut Tally) -> Result<(), Difference> {
+    fn orders(self, tally: &mut Tally, threads: u64) -> Result<(), Difference> {
         let mut rng = Rng::new(self.seed);
         for (chain, three) in [(LONGEST_WRITTEN, false), (LONGEST_WRITTEN + 1, true)] {
             let bones = broad(&mut rng, chain, chain);
             let (written, _) = exact(&mut rng, &bones);
             let base = WriteInput { out: if three { 10_000_000 } else { written.out }, ..written };
-            for chosen in 0..1 << CONDITIONS.len() {
+            let answers = share(0, 1 << CONDITIONS.len(), threads, |tally, chosen| {
                 let mut input = base.clone();
                 let holding = (0..CONDITIONS.len()).filter(|c| chosen >> c & 1 == 1).map(|c| CONDITIONS[c]);
                 let mut numbers: Vec<u32> = holding.inspect(|(_, make)| make(&mut input)).map(|(number, _)| number).collect();
@@ -65,7 +65,9 @@ impl Runs<'_> {
                 }
                 let answer = self.write(tally, &input)?;
                 assert_eq!(answer.status, numbers.first().copied().unwrap_or(DONE), "the first of {numbers:?}");
-            }
+                Ok(())
+            })?;
+            tally.merge(&answers);
         }
         Ok(())
     }

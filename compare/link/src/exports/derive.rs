@@ -1,42 +1,7 @@
 //! Deriving.
 
-use super::Rig;
+use super::{declared::*, Rig};
 use crate::Derive;
-
-extern "C" {
-    fn rig_num_hash_buckets(n: usize) -> usize;
-    fn rig_build_bone_tags(
-        bones: *const u32,
-        bones_len: usize,
-        n: usize,
-        buckets: *mut u32,
-        buckets_len: usize,
-        entries: *mut u32,
-        entries_len: usize,
-        count: *mut usize,
-    ) -> u32;
-    fn rig_build_indices(
-        bones: *const u32,
-        bones_len: usize,
-        n: usize,
-        parents: *mut u16,
-        parents_len: usize,
-        children: *mut u16,
-        children_len: usize,
-        pending: *mut u32,
-        pending_len: usize,
-        count: *mut usize,
-    ) -> u32;
-    fn rig_build_transformations(
-        bones: *const u32,
-        bones_len: usize,
-        n: usize,
-        inverse: *mut u32,
-        inverse_len: usize,
-        local: *mut u32,
-        local_len: usize,
-    ) -> u32;
-}
 
 impl Derive for Rig {
     fn num_hash_buckets(&self, n: usize) -> usize {

@@ -1,22 +1,7 @@
 //! The single fields.
 
-use super::Rig;
+use super::{declared::*, truth, Rig};
 use crate::Fields;
-
-extern "C" {
-    fn rig_u16_at(s: *const u8, s_len: usize, at: usize) -> u16;
-    fn rig_u32_at(s: *const u8, s_len: usize, at: usize) -> u32;
-    fn rig_u64_at(s: *const u8, s_len: usize, at: usize) -> u64;
-    fn rig_put16(d: *mut u8, d_len: usize, at: usize, v: u16) -> u8;
-    fn rig_put32(d: *mut u8, d_len: usize, at: usize, v: u32) -> u8;
-    fn rig_put64(d: *mut u8, d_len: usize, at: usize, v: u64) -> u8;
-}
-
-/// A returned bool is one byte, 0 or 1.
-fn truth(byte: u8) -> bool {
-    assert!(byte <= 1, "a bool came back as {byte}");
-    byte == 1
-}
 
 impl Fields for Rig {
     fn u16_at(&self, s: &[u8], at: usize) -> u16 {

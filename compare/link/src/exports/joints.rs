@@ -1,34 +1,7 @@
 //! Joints.
 
-use super::Rig;
+use super::{declared::*, Rig};
 use crate::{JointFields, Joints};
-
-extern "C" {
-    fn rig_joints_read(
-        sys: *const u8,
-        sys_len: usize,
-        gfx: *const u8,
-        gfx_len: usize,
-        root: u64,
-        rotation: *mut u32,
-        rotation_len: usize,
-        translation: *mut u32,
-        translation_len: usize,
-        fields: *mut JointFields,
-    ) -> u32;
-    fn rig_joints_write(
-        rotation: *const u32,
-        rotation_len: usize,
-        r: usize,
-        translation: *const u32,
-        translation_len: usize,
-        t: usize,
-        out: *mut u8,
-        out_len: usize,
-        count: *mut usize,
-    ) -> u32;
-    fn rig_fresh_rotation_limit(out: *mut [u32; 48]);
-}
 
 impl Joints for Rig {
     fn joints_read(

@@ -1,61 +1,7 @@
 //! Reading and writing of skeletons.
 
-use super::Rig;
+use super::{declared::*, Rig};
 use crate::{Halves, ReadTables, SkeletonFields, Skeletons, WriteTables, WrittenBones};
-
-extern "C" {
-    fn rig_read(
-        sys: *const u8,
-        sys_len: usize,
-        gfx: *const u8,
-        gfx_len: usize,
-        root: u64,
-        bones: *mut u32,
-        bones_len: usize,
-        buckets: *mut u32,
-        buckets_len: usize,
-        entries: *mut u32,
-        entries_len: usize,
-        inverse: *mut u32,
-        inverse_len: usize,
-        local: *mut u32,
-        local_len: usize,
-        parents: *mut u16,
-        parents_len: usize,
-        children: *mut u16,
-        children_len: usize,
-        pool: *mut u64,
-        pool_len: usize,
-        fields: *mut SkeletonFields,
-    ) -> u32;
-    fn rig_write(
-        bones: *const u32,
-        bones_len: usize,
-        n: usize,
-        sys: *const u8,
-        sys_len: usize,
-        gfx: *const u8,
-        gfx_len: usize,
-        free: *const [u32; 4],
-        buckets: *mut u32,
-        buckets_len: usize,
-        entries: *mut u32,
-        entries_len: usize,
-        inverse: *mut u32,
-        inverse_len: usize,
-        local: *mut u32,
-        local_len: usize,
-        parents: *mut u16,
-        parents_len: usize,
-        children: *mut u16,
-        children_len: usize,
-        pending: *mut u32,
-        pending_len: usize,
-        out: *mut u8,
-        out_len: usize,
-        count: *mut usize,
-    ) -> u32;
-}
 
 impl Skeletons for Rig {
     fn read(&self, section: Halves, root: u64, tables: ReadTables, fields: &mut SkeletonFields) -> u32 {

@@ -46,22 +46,22 @@ use denote.Triple.Spec.{tripleOf}
 use denote.Triple.Table.{cited}
 use denote.Triple.Walked.{says, Stays, stay-none, stay-none-slice, walkOf, goes-none, goes-none-slice, ends-at}
 use Rattle.format.specs.Field.{fieldAt}
-use Rattle.bones.specs.declared.Words3.{Words3}
-use Rattle.bones.specs.declared.Words4.{Words4}
-use Rattle.bones.proofs.Words3 as N3
-use Rattle.bones.proofs.Words3.Laws as N3′
-use Rattle.bones.proofs.Words4 as N4
-use Rattle.bones.proofs.Words4.Laws as N4′
-use Rattle.blocks.specs.Cursor.{words3At, words4At, verdict, readBy, taken, vaOf}
+use Rattle.format.specs.declared.Words3.{Words3}
+use Rattle.format.specs.declared.Words4.{Words4}
+use Rattle.format.proofs.Words3 as N3
+use Rattle.format.proofs.Words3.Laws as N3′
+use Rattle.format.proofs.Words4 as N4
+use Rattle.format.proofs.Words4.Laws as N4′
+use Rattle.blocks.specs.Cursor.{words3At, words4At, markedCheck, readBy, taken, vaOf}
 use Rattle.blocks.specs.declared.cursor.Cursor.{Cursor}
-use Rattle.blocks.specs.declared.cursor.Checked.{Checked}
+use Rattle.blocks.specs.declared.cursor.CursorCheck.{CursorCheck}
 use Rattle.blocks.proofs.Routines.{met-by}
 use Rattle.blocks.proofs.Reading.{Read as Reads}
 use Rattle.blocks.proofs.Lending.{B, lies-in, lies-out, Kept, reads-on, Skip, to-skip, skip-lent, skip-back}
 use Rattle.blocks.proofs.cursor.Cursor as T
 use Rattle.blocks.proofs.cursor.Cursor.Laws as T′
-use Rattle.blocks.proofs.cursor.Checked as S
-use Rattle.blocks.proofs.cursor.Checked.Laws as S′
+use Rattle.blocks.proofs.cursor.CursorCheck as S
+use Rattle.blocks.proofs.cursor.CursorCheck.Laws as S′
 use Rattle.blocks.proofs.cursor.Cursor.new as new
 use Rattle.blocks.proofs.cursor.Cursor.new.Symbol as new-def
 use Rattle.blocks.proofs.cursor.Cursor.new.Symbol.{name as #new}
@@ -102,7 +102,7 @@ use Rattle.blocks.proofs.cursor.Cursor.check as check
 use Rattle.blocks.proofs.cursor.Cursor.check.Symbol as check-def
 use Rattle.blocks.proofs.cursor.Cursor.check.Symbol.{name as #check}
 use Rattle.blocks.proofs.cursor.Cursor.check.Met as check-thm
-use Rattle.cursors.specs.Turns.{byteAt, halfAt, signedAt, wordAt, skipAt, longAt, floatAt, threeAt, fourAt, lastAt, inTurn}
+use Rattle.cursors.specs.Turns.{byteAt, halfAt, signedAt, wordAt, skipAt, longAt, floatAt, threeFrom, fourAt, lastAt, inTurn}
 use Rattle.cursors.specs.declared.Turns.{Turns}
 use Rattle.cursors.proofs.Turns as N
 use Rattle.cursors.proofs.Turns.Laws as N′
@@ -189,7 +189,7 @@ module _ {M : Type 1} (𝓤 : URA M) (H : Heap 𝓤) (A : Atoms 𝓤) (W : Given
   h₅ = floatAt s o b n
 
   abbrev h₆ : Cursor
-  h₆ = threeAt s o b n
+  h₆ = threeFrom s o b n
 
   abbrev h₇ : Cursor
   h₇ = fourAt s o b n
@@ -243,11 +243,11 @@ module _ {M : Type 1} (𝓤 : URA M) (H : Heap 𝓤) (A : Atoms 𝓤) (W : Given
   goes-check : ent 𝓤 (sep 𝓤 (sem 𝓤 H A (B κ .own h₉ (T′.lowered h₉ ∷ []))) (sep 𝓤 (A .lft κ q) (emp 𝓤))) (Check 𝓤 H A at-mem run .pre to-check)
   goes-check = goes-va
 
-  check-said : (t : Checked) → ent 𝓤 (ensured 𝓤 H A check.ended (check.clauses 𝓤 H A at-mem run) (κ, tt) (h₉, tt) tt t)
-      (fact 𝓤 (t ≡ verdict (h₉ .overrun)))
-  check-said t = exE 𝓤 _ (λ ws. snd∗ 𝓤 (sem 𝓤 H A (lasts check.ended (κ, tt) (h₉, tt) ws)) (fact 𝓤 (t ≡ verdict (h₉ .overrun))))
+  check-said : (t : CursorCheck) → ent 𝓤 (ensured 𝓤 H A check.ended (check.clauses 𝓤 H A at-mem run) (κ, tt) (h₉, tt) tt t)
+      (fact 𝓤 (t ≡ markedCheck (h₉ .overrun)))
+  check-said t = exE 𝓤 _ (λ ws. snd∗ 𝓤 (sem 𝓤 H A (lasts check.ended (κ, tt) (h₉, tt) ws)) (fact 𝓤 (t ≡ markedCheck (h₉ .overrun))))
 
-  module _ (byte half signed word long float : ℕ) (three : Words3) (four : Words4) (va : ℕ) (t : Checked) where
+  module _ (byte half signed word long float : ℕ) (three : Words3) (four : Words4) (va : ℕ) (t : CursorCheck) where
     -- the answer, and its machine value
     abbrev made : Turns
     made = record {
@@ -280,7 +280,7 @@ module _ {M : Type 1} (𝓤 : URA M) (H : Heap 𝓤) (A : Atoms 𝓤) (W : Given
 
     answer : byte ≡ readBy (fieldAt 1) h₀ → half ≡ readBy (fieldAt 2) h₁ → signed ≡ readBy (fieldAt 2) h₂ → word ≡ readBy (fieldAt 4) h₃
         → long ≡ readBy (fieldAt 8) h₄ → float ≡ readBy (fieldAt 4) h₅ → three ≡ readBy words3At h₆ → four ≡ readBy words4At h₇
-        → va ≡ vaOf h₉ → t ≡ verdict (h₉ .overrun) → made ≡ inTurn s o b n
+        → va ≡ vaOf h₉ → t ≡ markedCheck (h₉ .overrun) → made ≡ inTurn s o b n
     unfolding inTurn
     answer e₀ e₁ e₂ e₃ e₅ e₆ e₇ e₈ e₉ e₁₀ = λ i. record {
       byte = e₀ i;
@@ -444,10 +444,10 @@ module _ {M : Type 1} (𝓤 : URA M) (H : Heap 𝓤) (A : Atoms 𝓤) (W : Given
         assigns ! (of-opd ! (load ! (from ! (stop !)) (look ! 2 refl))) (from ! (stop !)) (init ! 4 refl (cursor-typed h₉ _ is₉)) $
         move ! (1 ∷ 0 ∷ []) $ use2 W (raw (Check 𝓤 H A at-mem run .pre to-check)) goes-check $
         calls-at ! fm (Check 𝓤 H A at-mem run) known-check to-check (and-then ! (load ! (from ! (stop !)) (look ! 3 refl)) (no-more !)) (λ u.
-        use1 W (later (some (λ (t : Checked). ((‵ (flft κ q) ⊛ ‵ ftrue) ⊛ ‵ (S.the-row .own t (u ∷ []))) ⊛ raw
+        use1 W (later (some (λ (t : CursorCheck). ((‵ (flft κ q) ⊛ ‵ ftrue) ⊛ ‵ (S.the-row .own t (u ∷ []))) ⊛ raw
         (ensured 𝓤 H A check.ended (check.clauses 𝓤 H A at-mem run) (κ, tt) (h₉, tt) tt t)))) (id⊢ 𝓤 _) $ await ! tt $ pick ! (λ t.
-        split ! $ move ! (1 ∷ []) $ use1 W (raw (fact 𝓤 (t ≡ verdict (h₉ .overrun)))) (check-said t) $
-        heard ! (t ≡ verdict (h₉ .overrun)) (λ e-t. split ! $ move ! (1 ∷ []) $
+        split ! $ move ! (1 ∷ []) $ use1 W (raw (fact 𝓤 (t ≡ markedCheck (h₉ .overrun)))) (check-said t) $
+        heard ! (t ≡ markedCheck (h₉ .overrun)) (λ e-t. split ! $ move ! (1 ∷ []) $
         peeks ! S.the-row (Is S.the-row) (shows 𝓤 H A S.the-row) t (u ∷ []) (λ is-t.
         land ! (from ! (stop !)) (init ! 6 refl (EL.lawful S.the-type S′.the-laws 𝓤 H A W tt .typed t _ is-t .0)) $
         -- [what the verdict owns; the token; _5; what s owns; the other locals]: the answer is put together

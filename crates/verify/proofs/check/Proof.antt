@@ -3,7 +3,7 @@ use borrow.Author.Needs.{needs}
 use mathlib.Core.Path.{_∙_}
 use Rattle.blocks.specs.Places.{section}
 use Rattle.read.specs.Lent.{lent}
-use Rattle.write.specs.Working.{tables}
+use Rattle.tables.specs.Working.{working}
 use Rattle.verify.proofs.Whole.{check-whole}
 use Rattle.verify.proofs.check.Statement.{statement}
 use Rattle.verify.proofs.check.Tie as tie
@@ -12,16 +12,16 @@ abbrev settled : tie.After-slice-known38 → tie.After-settle
 settled c = c .before .before .before .before .before .before .before .before .before .before .before .before .before .before
     .before .before
 
-abbrev matched : tie.After-settle → tie.After-check-matrices
+abbrev matched : tie.After-settle → tie.After-matrices-step
 matched c = c .before .before .before .before .before .before .before .before .before .before .before .before .before
 
-abbrev indexed : tie.After-check-matrices → tie.After-check-indices
+abbrev indexed : tie.After-matrices-step → tie.After-indices-step
 indexed c = c .before .before .before .before .before .before .before .before .before .before .before .before
 
-abbrev chained : tie.After-check-indices → tie.After-check-chains
+abbrev chained : tie.After-indices-step → tie.After-chains-step
 chained c = c .before .before .before .before .before .before .before .before .before .before .before
 
-abbrev started : tie.After-check-chains → tie.After-begin
+abbrev started : tie.After-chains-step → tie.After-begin
 started c = c .before .before .before .before .before .before
 
 abbrev counted : tie.After-begin → tie.After-count-parts
@@ -44,14 +44,14 @@ count-parts-requires c κs = search needs
 begin-requires : tie.Need-begin-requires
 begin-requires c κs = search needs
 
-check-chains-requires : tie.Need-check-chains-requires
-check-chains-requires c κs = search needs
+chains-step-requires : tie.Need-chains-step-requires
+chains-step-requires c κs = search needs
 
-check-indices-requires : tie.Need-check-indices-requires
-check-indices-requires c κs = search needs
+indices-step-requires : tie.Need-indices-step-requires
+indices-step-requires c κs = search needs
 
-check-matrices-requires : tie.Need-check-matrices-requires
-check-matrices-requires c κs = search needs
+matrices-step-requires : tie.Need-matrices-step-requires
+matrices-step-requires c κs = search needs
 
 settle-requires : tie.Need-settle-requires
 settle-requires c κs = search needs
@@ -150,7 +150,7 @@ same-length-9 c =
     let m = matched s in
     let i = indexed m in
     let h = chained i in
-    h .check-chains .kept .1 .1 .1 .1 .1 .0
+    h .chains-step .kept .1 .1 .1 .1 .1 .0
 
 same-length-10 : tie.Need-same-length-10
 same-length-10 c =
@@ -158,40 +158,40 @@ same-length-10 c =
     let m = matched s in
     let i = indexed m in
     let h = chained i in
-    h .check-chains .kept .1 .1 .1 .1 .1 .1 .0
+    h .chains-step .kept .1 .1 .1 .1 .1 .1 .0
 
 same-length-11 : tie.Need-same-length-11
 same-length-11 c =
     let s = settled c in
     let m = matched s in
-    m .check-matrices .kept .1 .1 .1 .1 .1 .1 .0
+    m .matrices-step .kept .1 .1 .1 .1 .1 .1 .0
 
 same-length-12 : tie.Need-same-length-12
 same-length-12 c =
     let s = settled c in
     let m = matched s in
-    m .check-matrices .kept .1 .1 .1 .1 .1 .1 .1 .0
+    m .matrices-step .kept .1 .1 .1 .1 .1 .1 .1 .0
 
 same-length-13 : tie.Need-same-length-13
 same-length-13 c =
     let s = settled c in
     let m = matched s in
     let i = indexed m in
-    i .check-indices .kept .1 .1 .1 .1 .1 .1 .0
+    i .indices-step .kept .1 .1 .1 .1 .1 .1 .0
 
 same-length-14 : tie.Need-same-length-14
 same-length-14 c =
     let s = settled c in
     let m = matched s in
     let i = indexed m in
-    i .check-indices .kept .1 .1 .1 .1 .1 .1 .1 .0
+    i .indices-step .kept .1 .1 .1 .1 .1 .1 .1 .0
 
 same-length-15 : tie.Need-same-length-15
 same-length-15 c =
     let s = settled c in
     let m = matched s in
     let i = indexed m in
-    i .check-indices .kept .1 .1 .1 .1 .1 .1 .1 .1 .0
+    i .indices-step .kept .1 .1 .1 .1 .1 .1 .1 .1 .0
 
 returns : tie.Need-returns
 returns c =
@@ -219,11 +219,11 @@ returns c =
     (lent (s .settle .last .1 .0) (s .settle .last .1 .1 .0) (s .settle .last .1 .1 .1 .0) (s .settle .last .1 .1 .1 .1 .0) (s
     .settle .last .1 .1 .1 .1 .1 .0) (s .settle .last .1 .1 .1 .1 .1 .1 .0) (s .settle .last .1 .1 .1 .1 .1 .1 .1 .0) (s .settle
     .last .1 .1 .1 .1 .1 .1 .1 .1 .0))
-    (tables (a .args .derived-buckets .now) (a .args .derived-entries .now) (a .args .derived-inverse .now) (a .args .derived-local
+    (working (a .args .derived-buckets .now) (a .args .derived-entries .now) (a .args .derived-inverse .now) (a .args .derived-local
     .now) (a .args .derived-parents .now) (a .args .derived-children .now) (a .args .pending .now))
-    (tables (h .check-chains .last .1 .1 .1 .1 .1 .0) (h .check-chains .last .1 .1 .1 .1 .1 .1 .0) (m .check-matrices .last .1 .1 .1
-    .1 .1 .1 .0) (m .check-matrices .last .1 .1 .1 .1 .1 .1 .1 .0) (i .check-indices .last .1 .1 .1 .1 .1 .1 .0) (i .check-indices
-    .last .1 .1 .1 .1 .1 .1 .1 .0) (i .check-indices .last .1 .1 .1 .1 .1 .1 .1 .1 .0))
+    (working (h .chains-step .last .1 .1 .1 .1 .1 .0) (h .chains-step .last .1 .1 .1 .1 .1 .1 .0) (m .matrices-step .last .1 .1 .1
+    .1 .1 .1 .0) (m .matrices-step .last .1 .1 .1 .1 .1 .1 .1 .0) (i .indices-step .last .1 .1 .1 .1 .1 .1 .0) (i .indices-step
+    .last .1 .1 .1 .1 .1 .1 .1 .0) (i .indices-step .last .1 .1 .1 .1 .1 .1 .1 .1 .0))
     (g .read .ensures) (record {
       bones = g .read .kept .1 .1 .1 .0;
       buckets = g .read .kept .1 .1 .1 .1 .0;
@@ -233,18 +233,18 @@ returns c =
       parents = g .read .kept .1 .1 .1 .1 .1 .1 .1 .1 .0;
       children = g .read .kept .1 .1 .1 .1 .1 .1 .1 .1 .1 .0;
       pool = g .read .kept .1 .1 .1 .1 .1 .1 .1 .1 .1 .1 .0;
-    }) (k .count-parts .ensures) (b .begin .result) (h .check-chains .result) (i .check-indices .result) (m
-    .check-matrices .result) (s .settle .result)
-    (b .begin .ensures) (h .check-chains .ensures .0) (i .check-indices .ensures .0) (m .check-matrices .ensures .0) (s .settle
+    }) (k .count-parts .ensures) (b .begin .result) (h .chains-step .result) (i .indices-step .result) (m
+    .matrices-step .result) (s .settle .result)
+    (b .begin .ensures) (h .chains-step .ensures .0) (i .indices-step .ensures .0) (m .matrices-step .ensures .0) (s .settle
     .ensures .0) (s .settle .ensures .1)
     (record {
-      buckets = h .check-chains .ensures .1 .0;
-      entries = h .check-chains .ensures .1 .1;
-      inverse = m .check-matrices .ensures .1 .0;
-      local = m .check-matrices .ensures .1 .1;
-      parents = i .check-indices .ensures .1 .0;
-      children = i .check-indices .ensures .1 .1;
-      pending = i .check-indices .ensures .1 .2;
+      buckets = h .chains-step .ensures .1 .0;
+      entries = h .chains-step .ensures .1 .1;
+      inverse = m .matrices-step .ensures .1 .0;
+      local = m .matrices-step .ensures .1 .1;
+      parents = i .indices-step .ensures .1 .0;
+      children = i .indices-step .ensures .1 .1;
+      pending = i .indices-step .ensures .1 .2;
     })
 
 pub check-spec : {M : Type 1} → statement M
@@ -254,9 +254,9 @@ check-spec =
     read-requires
     count-parts-requires
     begin-requires
-    check-chains-requires
-    check-indices-requires
-    check-matrices-requires
+    chains-step-requires
+    indices-step-requires
+    matrices-step-requires
     settle-requires
     same-length
     same-length-2

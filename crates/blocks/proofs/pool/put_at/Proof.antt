@@ -4,7 +4,7 @@ use denote.Ref.{now}
 use native.Mathlib.Omega.{arith}
 use lib.ListN.{length-set}
 use Rattle.blocks.specs.Kinds.{meantKind}
-use Rattle.blocks.specs.Pool.{rowOf}
+use Rattle.blocks.specs.Pool.{poolRow}
 use Rattle.blocks.proofs.Storing.{stores-full, stores-done}
 use Rattle.blocks.proofs.pool.put_at.Statement.{statement}
 use Rattle.blocks.proofs.pool.put_at.Tie as tie
@@ -13,7 +13,7 @@ returns : tie.Need-returns
 returns c =
     let a = c .before .before .args in
     record {
-      at = λ p. stores-full (now (a .pool)) (rowOf (a .va) (meantKind (a .kind)) (a .first) (a .count)) (a .i) p (c .if1 .taken);
+      at = λ p. stores-full (now (a .pool)) (poolRow (a .va) (meantKind (a .kind)) (a .first) (a .count)) (a .i) p (c .if1 .taken);
     }
 
 code-requires : tie.Need-code-requires
@@ -73,7 +73,7 @@ returns-2 c =
     record {
       at =
           λ p.
-          stores-done (now (a .pool)) (rowOf (a .va) (meantKind (a .kind)) (a .first) (a .count)) (a .i) p (c .before .if1 .left)
+          stores-done (now (a .pool)) (poolRow (a .va) (meantKind (a .kind)) (a .first) (a .count)) (a .i) p (c .before .if1 .left)
           (c .code .ensures);
     }
 

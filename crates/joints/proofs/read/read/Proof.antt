@@ -8,11 +8,11 @@ use Rattle.joints.proofs.Lists.{promised}
 use Rattle.joints.proofs.read.read.Statement.{statement}
 use Rattle.joints.proofs.read.read.Tie as tie
 
-clear-requires : tie.Need-clear-requires
-clear-requires c κs = search needs
+clear32-requires : tie.Need-clear32-requires
+clear32-requires c κs = search needs
 
-clear-requires-2 : tie.Need-clear-requires-2
-clear-requires-2 c κs = search needs
+clear32-requires-2 : tie.Need-clear32-requires-2
+clear32-requires-2 c κs = search needs
 
 same-length : tie.Need-same-length
 same-length c = search needs
@@ -25,7 +25,7 @@ returns c =
     let a = c .before .before .before .before .before .before .before .before .before .before .before .before .before .args in
     promised (now (a .rotation)) (now (a .translation))
     (reads-nothing (read-nothing _ _ _ (c .if1 .taken))
-    (c .before .before .before .before .before .before .before .clear .ensures) (c .before .before .before .clear2 .ensures))
+    (c .before .before .before .before .before .before .before .clear32 .ensures) (c .before .before .before .clear322 .ensures))
 
 find-record-requires : tie.Need-find-record-requires
 find-record-requires c κs = search needs
@@ -38,8 +38,8 @@ read-lists-requires c κs =
     let t = c .before .before .before .before .before .before .before .before .before in
     let r = t .before .before .before .before in
     let a = r .before .before .before .before .before .before .args in
-    let zr = cleared-again (length (now (a .rotation))) (r .clear .ensures) in
-    (zr, cleared-again (length (now (a .translation))) (t .clear2 .ensures))
+    let zr = cleared-again (length (now (a .rotation))) (r .clear32 .ensures) in
+    (zr, cleared-again (length (now (a .translation))) (t .clear322 .ensures))
 
 enum-known-r : tie.Need-enum-known-r
 enum-known-r c = search needs
@@ -59,7 +59,7 @@ returns-2 c =
     let a = r .before .before .before .before .before .before .args in
     promised (now (a .rotation)) (now (a .translation))
     (reads-lists _ (a .root) (now (a .rotation)) (now (a .translation)) _ _ (f .before .if1 .left) (f .find-record .ensures)
-    (h .h .given .1) (r .clear .kept .0) (t .clear2 .kept .0) (c .before .before .before .before .read-lists .ensures))
+    (h .h .given .1) (r .clear32 .kept .0) (t .clear322 .kept .0) (c .before .before .before .before .read-lists .ensures))
 
 same-length-5 : tie.Need-same-length-5
 same-length-5 c = search needs
@@ -77,14 +77,14 @@ returns-3 c =
     promised (now (a .rotation)) (now (a .translation))
     (reads-refused x
     (read-refused _ _ _ (a .root) (f .before .if1 .left) x (f .find-record .ensures) (c .before .r .given .1))
-    (r .clear .ensures) (t .clear2 .ensures))
+    (r .clear32 .ensures) (t .clear322 .ensures))
 
 pub read-spec : {M : Type 1} → statement M
 read-spec =
     tie.close
     (tie.spec
-    clear-requires
-    clear-requires-2
+    clear32-requires
+    clear32-requires-2
     same-length
     same-length-2
     returns

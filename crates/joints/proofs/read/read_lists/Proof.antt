@@ -32,8 +32,8 @@ read-limits-requires-2 c κs = (
 enum-known-second : tie.Need-enum-known-second
 enum-known-second c = search needs
 
-clear-requires : tie.Need-clear-requires
-clear-requires c κs = search needs
+clear32-requires : tie.Need-clear32-requires
+clear32-requires c κs = search needs
 
 same-length-2 : tie.Need-same-length-2
 same-length-2 c = search needs
@@ -48,7 +48,7 @@ returns-2 c =
     let x = e .before .before .before .before in
     let k = x .before .before .before .before .before .before in
     lists-second _ (k .args .h) (x .read-limits .ensures) (e .enum-told .given .1) (y .read-limits2 .ensures)
-    (c .before .before .before .before .before .second .given .1) (c .before .before .clear .ensures) (search needs)
+    (c .before .before .before .before .before .second .given .1) (c .before .before .clear32 .ensures) (search needs)
 
 enum-told-2 : tie.Need-enum-told-2
 enum-told-2 c = search needs
@@ -85,7 +85,7 @@ read-lists-spec =
     enum-told
     read-limits-requires-2
     enum-known-second
-    clear-requires
+    clear32-requires
     same-length-2
     same-length-3
     returns-2

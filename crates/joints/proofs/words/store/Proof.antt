@@ -1,71 +1,48 @@
--- `joints::words::store` meets its contract: `Stored` holds at each turn. Assumes nothing.
+-- `joints::words::store` meets its contract: the run stands. Assumes nothing.
 use borrow.Author.Needs.{needs}
-use Prim.Native.Nat.{_-_}
-use Rattle.joints.proofs.Runs.{Stored, stored-none, stored-more, stored-all}
+use mathlib.Core.Path.{_∙_}
+use denote.Ref.{now}
+use Rattle.fields.proofs.RunLaws.{part-stored}
 use Rattle.joints.proofs.words.store.Statement.{statement}
 use Rattle.joints.proofs.words.store.Tie as tie
 
-abbrev Inv-loop : tie.InvT-loop
-Inv-loop t from n d₀ at i₀ d i = Stored t from n d₀ at d i
+add-e : tie.Need-add-e
+add-e c = search needs
 
-abbrev μ-loop : tie.MeasureT-loop
-μ-loop t from n d₀ at i₀ d i = n - i
+mul-put-words : tie.Need-mul-put-words
+mul-put-words c = search needs
 
-loop-holds : tie.Need-loop-holds Inv-loop μ-loop
-loop-holds c = stored-none _ _ _ _ _
+sub-put-words : tie.Need-sub-put-words
+sub-put-words c = search needs
 
-mul-put32 : tie.Need-mul-put32 Inv-loop μ-loop
-mul-put32 c = search needs
+part-put-words-start : tie.Need-part-put-words-start
+part-put-words-start c = search needs
 
-add-put32 : tie.Need-add-put32 Inv-loop μ-loop
-add-put32 c = search needs
+part-put-words-end : tie.Need-part-put-words-end
+part-put-words-end c = search needs
 
-add-put32-2 : tie.Need-add-put32-2 Inv-loop μ-loop
-add-put32-2 c = search needs
+put-words-requires : tie.Need-put-words-requires
+put-words-requires c κs = search needs
 
-mul-put32-2 : tie.Need-mul-put32-2 Inv-loop μ-loop
-mul-put32-2 c = search needs
-
-shared-slice-read-put32 : tie.Need-shared-slice-read-put32 Inv-loop μ-loop
-shared-slice-read-put32 c = search needs
-
-put32-requires : tie.Need-put32-requires Inv-loop μ-loop
-put32-requires c κs = search needs
-
-add-i : tie.Need-add-i Inv-loop μ-loop
-add-i c = search needs
-
-loop-less : tie.Need-loop-less Inv-loop μ-loop
-loop-less c = search needs
-
-loop-again : tie.Need-loop-again Inv-loop μ-loop
-loop-again c =
-    let b = c .before .before .before .before .before .before in
-    let p = b .before .before .before .pre in
-    stored-more (b .loop .inv) (c .before .before .before .before .before .loop-test .taken) (p .0) (p .1)
-    (c .before .before .put32 .ensures .1)
-
-same-length : tie.Need-same-length Inv-loop μ-loop
+same-length : tie.Need-same-length
 same-length c = search needs
 
-returns : tie.Need-returns Inv-loop μ-loop
-returns c = stored-all (c .before .loop .inv) (c .loop-test .left)
+returns : tie.Need-returns
+returns c =
+    let k = c .before .before in
+    let b = k .before .before .before .before .before in
+    let a = b .args in
+    k .put-words .ensures .1 ∙ part-stored 4 (a .n) (now (a .t)) (a .from) (now (a .d)) (a .at) (b .pre .0) (b .pre .1)
 
 pub store-spec : {M : Type 1} → statement M
 store-spec =
     tie.close
     (tie.spec
-    Inv-loop
-    μ-loop
-    loop-holds
-    mul-put32
-    add-put32
-    add-put32-2
-    mul-put32-2
-    shared-slice-read-put32
-    put32-requires
-    add-i
-    loop-less
-    loop-again
+    add-e
+    mul-put-words
+    sub-put-words
+    part-put-words-start
+    part-put-words-end
+    put-words-requires
     same-length
     returns)

@@ -3,7 +3,7 @@ use borrow.Author.Needs.{needs}
 use mathlib.Core.Path.{sym, _∙_}
 use native.Mathlib.Omega.{arith}
 use denote.Ref.{now}
-use Rattle.bones.specs.Row.{hasRow}
+use Rattle.rows.specs.Row.{hasRow}
 use Rattle.read_bones.proofs.Rows.{has-row-lt}
 use Rattle.read_bones.proofs.Bones.{stored-is, bone-name-refused, bone-no-room, bone-full, bone-done}
 use Rattle.read_bones.proofs.bone.bone_from.Statement.{statement}

@@ -1,7 +1,7 @@
 -- `read_bones::bone::bone_in` meets its contract. Assumes nothing.
 use borrow.Author.Needs.{needs}
-use Rattle.bones.specs.Value.{meantBone}
-use Rattle.read_bones.specs.Bones.{boneAt}
+use Rattle.rows.specs.Value.{meantBone}
+use Rattle.read_bones.specs.Bones.{boneFields}
 use Rattle.read_bones.proofs.bone.bone_in.Statement.{statement}
 use Rattle.read_bones.proofs.bone.bone_in.Tie as tie
 
@@ -30,7 +30,7 @@ u16-at-requires-5 : tie.Need-u16-at-requires-5
 u16-at-requires-5 c κs = search needs
 
 returns : tie.Need-returns
-unfolding boneAt meantBone
+unfolding boneFields meantBone
 returns c = cc
 
 pub bone-in-spec : {M : Type 1} → statement M

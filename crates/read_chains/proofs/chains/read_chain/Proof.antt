@@ -4,7 +4,7 @@ use Prim.Native.Nat.{_-_}
 use native.Mathlib.Omega.{arith}
 use mathlib.Core.Path.{ap}
 use Rattle.blocks.specs.Places.{section}
-use Rattle.blocks.specs.Hashed.{Placed}
+use Rattle.blocks.specs.Hashed.{PlacedAt}
 use Rattle.read_chains.specs.Lent.{entryRoom}
 use Rattle.read_chains.proofs.Chaining.{Chaining, chaining-none, chaining-full, chaining-end, chaining-lost, chaining-next, next-placed}
 use Rattle.read_chains.proofs.chains.read_chain.Statement.{statement}
@@ -12,7 +12,7 @@ use Rattle.read_chains.proofs.chains.read_chain.Tie as tie
 
 abbrev Inv-loop : tie.InvT-loop
 Inv-loop sys gfx va i entries₀ used pool₀ n at₀ free₀ row₀ entries pool at free row =
-    Chaining (section sys gfx) va used at row entries₀ entries pool₀ pool × Placed pool at free
+    Chaining (section sys gfx) va used at row entries₀ entries pool₀ pool × PlacedAt pool at free
 
 abbrev μ-loop : tie.MeasureT-loop
 μ-loop sys gfx va i entries₀ used pool₀ n at₀ free₀ row₀ entries pool at free row = n - row

@@ -13,8 +13,8 @@ array-requires c κs = search needs
 enum-known-o : tie.Need-enum-known-o
 enum-known-o c = search needs
 
-load16-requires : tie.Need-load16-requires
-load16-requires c κs =
+load-indices-requires : tie.Need-load-indices-requires
+load-indices-requires c κs =
     let o = c .before .before in
     let f = o .before .before in
     let a = f .before .before .before .before .args in
@@ -23,8 +23,8 @@ load16-requires c κs =
 enum-known-o-2 : tie.Need-enum-known-o-2
 enum-known-o-2 c = search needs
 
-load16-requires-2 : tie.Need-load16-requires-2
-load16-requires-2 c κs =
+load-indices-requires-2 : tie.Need-load-indices-requires-2
+load-indices-requires-2 c κs =
     let o = c .before .before in
     let f = o .before .before in
     let a = f .before .before .before .before .args in
@@ -42,7 +42,7 @@ returns c =
     let o = l .before .before .before in
     let f = o .before .before in
     let a = f .before .before .before .before .args in
-    reads-system 2 (a .n) (f .array .ensures) (o .o .given .1) (l .load16 .ensures)
+    reads-system 2 (a .n) (f .array .ensures) (o .o .given .1) (l .load-indices .ensures)
 
 same-length-2 : tie.Need-same-length-2
 same-length-2 c = search needs
@@ -53,7 +53,7 @@ returns-2 c =
     let o = l .before .before .before in
     let f = o .before .before in
     let a = f .before .before .before .before .args in
-    reads-graphics 2 (a .n) (f .array .ensures) (o .o2 .given .1) (l .load162 .ensures)
+    reads-graphics 2 (a .n) (f .array .ensures) (o .o2 .given .1) (l .load-indices2 .ensures)
 
 returns-3 : tie.Need-returns-3
 returns-3 c =
@@ -69,9 +69,9 @@ new-indices-spec =
     mul-array
     array-requires
     enum-known-o
-    load16-requires
+    load-indices-requires
     enum-known-o-2
-    load16-requires-2
+    load-indices-requires-2
     enum-known-r
     same-length
     returns

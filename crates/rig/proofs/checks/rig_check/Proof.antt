@@ -1,5 +1,5 @@
 -- `rig_check` says what `verify::check` says. Assumes nothing.
-use Rattle.answers.proofs.Told.{check-told}
+use Rattle.rig_answers.proofs.Told.{check-told}
 use Rattle.rig.proofs.checks.rig_check.Statement.{statement}
 use Rattle.rig.proofs.checks.rig_check.Tie as tie
 

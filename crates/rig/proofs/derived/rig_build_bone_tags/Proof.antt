@@ -1,7 +1,7 @@
 -- `rig_build_bone_tags` says what `build_bone_tags` says. Assumes nothing.
 use borrow.Author.Needs.{needs}
 use mathlib.Core.Path.{sym, ap, _∙_}
-use Rattle.derive.specs.Tagging.{taggedOf}
+use Rattle.derive_chains.specs.Tagging.{taggedOf}
 use Rattle.rig.proofs.Answers.{status-done, status-refused, counted-done, counted-refused}
 use Rattle.rig.proofs.derived.rig_build_bone_tags.Statement.{statement}
 use Rattle.rig.proofs.derived.rig_build_bone_tags.Tie as tie

@@ -1,7 +1,7 @@
 -- `rig_build_indices` says what `build_indices` says. Assumes nothing.
 use borrow.Author.Needs.{needs}
 use mathlib.Core.Path.{sym, ap, _∙_}
-use Rattle.derive.specs.Indexing.{indexedOf}
+use Rattle.derive_children.specs.Indexing.{indexedOf}
 use Rattle.rig.proofs.Answers.{status-done, status-refused, counted-done, counted-refused}
 use Rattle.rig.proofs.derived.rig_build_indices.Statement.{statement}
 use Rattle.rig.proofs.derived.rig_build_indices.Tie as tie

@@ -1,7 +1,7 @@
 -- `rig_build_transformations` says what `build_transformations` says. Assumes nothing.
 use borrow.Author.Needs.{needs}
 use mathlib.Core.Path.{sym, ap, _∙_}
-use Rattle.matrices.specs.Transforming.{transformedOf}
+use Rattle.derive_matrices.specs.Transforming.{transformedOf}
 use Rattle.rig.proofs.Answers.{status-done, status-refused}
 use Rattle.rig.proofs.derived.rig_build_transformations.Statement.{statement}
 use Rattle.rig.proofs.derived.rig_build_transformations.Tie as tie

@@ -1,5 +1,5 @@
 -- `rig_search` says what `search::search` says. Assumes nothing.
-use Rattle.answers.proofs.Told.{search-told}
+use Rattle.rig_answers.proofs.Told.{search-told}
 use Rattle.rig.proofs.names.rig_search.Statement.{statement}
 use Rattle.rig.proofs.names.rig_search.Tie as tie
 

@@ -1,5 +1,5 @@
 -- `rig_read` says what `read::read` says. Assumes nothing.
-use Rattle.answers.proofs.Told.{read-told}
+use Rattle.rig_answers.proofs.Told.{read-told}
 use Rattle.rig.proofs.sections.rig_read.Statement.{statement}
 use Rattle.rig.proofs.sections.rig_read.Tie as tie
 

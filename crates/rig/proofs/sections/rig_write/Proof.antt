@@ -1,6 +1,6 @@
 -- `rig_write` says what `write::write` says. Assumes nothing.
 use borrow.Author.Needs.{needs}
-use Rattle.answers.proofs.Told.{write-told}
+use Rattle.rig_answers.proofs.Told.{write-told}
 use Rattle.rig.proofs.sections.rig_write.Statement.{statement}
 use Rattle.rig.proofs.sections.rig_write.Tie as tie
 

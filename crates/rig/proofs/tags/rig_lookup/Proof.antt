@@ -1,5 +1,5 @@
 -- `rig_lookup` says what `lookup::lookup` says. Assumes nothing.
-use Rattle.answers.proofs.Told.{told-by}
+use Rattle.rig_answers.proofs.Told.{told-by}
 use Rattle.rig.proofs.tags.rig_lookup.Statement.{statement}
 use Rattle.rig.proofs.tags.rig_lookup.Tie as tie
 

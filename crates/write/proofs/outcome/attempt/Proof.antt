@@ -1,8 +1,8 @@
 -- `write::outcome::attempt` meets its contract. Assumes nothing.
 use borrow.Author.Needs.{needs}
 use Rattle.blocks.specs.Places.{section}
-use Rattle.write.specs.Placing.{meantFree}
-use Rattle.write.specs.Working.{tables, roomIn}
+use Rattle.format.specs.Words.{meantWords4}
+use Rattle.tables.specs.Working.{working, roomIn}
 use Rattle.write.proofs.Outcomes.{writes-refused, writes-same, sound, outcome-refused}
 use Rattle.write.proofs.Outcomes.{outcome-short, outcome-derived, rows-held, all-held}
 use Rattle.write.proofs.outcome.attempt.Statement.{statement}
@@ -21,7 +21,7 @@ returns : tie.Need-returns
 returns c =
     let a = c .before .before .before .before .before .before .before .before .before .before .before .before .before .before
     .before .args in
-    let x = tables (a .buckets .now) (a .entries .now) (a .inverse .now) (a .local .now) (a .parents .now) (a .children .now)
+    let x = working (a .buckets .now) (a .entries .now) (a .inverse .now) (a .local .now) (a .parents .now) (a .children .now)
     (a .pending .now) in
     let t = a .bones .now in
     writes-refused _ (outcome-refused (section (a .sys .now) (a .gfx .now)) (roomIn x) _ (a .n) t _ (c .before .before .before
@@ -31,7 +31,7 @@ derive-tables-requires : tie.Need-derive-tables-requires
 derive-tables-requires c κs =
     let a = c .before .before .before .before .before .before .before .before .before .before .before .before .before .before
     .before .before .before .before .before .before .before .before .args in
-    let x = tables (a .buckets .now) (a .entries .now) (a .inverse .now) (a .local .now) (a .parents .now) (a .children .now)
+    let x = working (a .buckets .now) (a .entries .now) (a .inverse .now) (a .local .now) (a .parents .now) (a .children .now)
     (a .pending .now) in
     let t = a .bones .now in
     sound (section (a .sys .now) (a .gfx .now)) (a .n) t (c .before .before .before .before .before .before .before .before
@@ -70,7 +70,7 @@ returns-2 c =
     let a = c .before .before .before .before .before .before .before .before .before .before .before .before .before .before
     .before .before .before .before .before .before .before .before .before .before .before .before .before .before .before
     .before .before .before .before .before .before .before .before .before .before .before .args in
-    let x = tables (a .buckets .now) (a .entries .now) (a .inverse .now) (a .local .now) (a .parents .now) (a .children .now)
+    let x = working (a .buckets .now) (a .entries .now) (a .inverse .now) (a .local .now) (a .parents .now) (a .children .now)
     (a .pending .now) in
     let t = a .bones .now in
     writes-refused _ (outcome-short (section (a .sys .now) (a .gfx .now)) (roomIn x) _ (a .n) t _ (sound (section (a .sys .now)
@@ -90,10 +90,10 @@ lay-out-requires c κs =
     .before .before .before .before .before .before .before .before .before .before .before .before .before .before .before
     .before .before .before .before .before .before .before .before .before .before .before .before .before .before .before
     .before .before .before .before .args in
-    let x = tables (a .buckets .now) (a .entries .now) (a .inverse .now) (a .local .now) (a .parents .now) (a .children .now)
+    let x = working (a .buckets .now) (a .entries .now) (a .inverse .now) (a .local .now) (a .parents .now) (a .children .now)
     (a .pending .now) in
     let t = a .bones .now in
-    let k = outcome-derived (section (a .sys .now) (a .gfx .now)) (roomIn x) 0 (a .n) t (meantFree (a .free)) (sound (section
+    let k = outcome-derived (section (a .sys .now) (a .gfx .now)) (roomIn x) 0 (a .n) t (meantWords4 (a .free)) (sound (section
     (a .sys .now) (a .gfx .now)) (a .n) t (c .before .before .before .before .before .before .before .before .before .before
     .before .before .before .before .before .before .before .before .before .before .before .before .before .before .before
     .before .before .before .before .before .before .before .before .before .before .before .check-bones .ensures) (c .before
@@ -144,7 +144,7 @@ returns-3 c =
     .before .before .before .before .before .before .before .before .before .before .before .before .before .before .before
     .before .before .before .before .before .before .before .before .before .before .before .before .before .before .before
     .before .before .before .before .before .before .before .args in
-    let x = tables (a .buckets .now) (a .entries .now) (a .inverse .now) (a .local .now) (a .parents .now) (a .children .now)
+    let x = working (a .buckets .now) (a .entries .now) (a .inverse .now) (a .local .now) (a .parents .now) (a .children .now)
     (a .pending .now) in
     let t = a .bones .now in
     let k = outcome-derived (section (a .sys .now) (a .gfx .now)) (roomIn x) _ (a .n) t _ (sound (section (a .sys .now) (a .gfx

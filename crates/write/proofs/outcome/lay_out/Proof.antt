@@ -6,7 +6,7 @@ use Rattle.format.specs.Rows.{bonesOf}
 use Rattle.format.specs.Layout.{layout}
 use Rattle.format.specs.Write.{named}
 use Rattle.blocks.specs.Places.{section}
-use Rattle.write.specs.Placing.{meantFree}
+use Rattle.format.specs.Words.{meantWords4}
 use Rattle.write.proofs.Stages.{place-asks, after-asks, size-is, ready}
 use Rattle.write.proofs.Outcomes.{writes-refused, writes-done, laid-many, laid-short, laid-done}
 use Rattle.write.proofs.outcome.lay_out.Statement.{statement}
@@ -45,7 +45,7 @@ returns-2 c =
     let h = c .before .before .before .before .before .before .before .before .before .before .before .before .before .before
     .before .before .before .pre in
     let n = size-is h (c .before .before .before .before .entry-count .ensures) (c .before .before .before .place .ensures) (c
-    .before .after .ensures) (meantFree (a .free)) in
+    .before .after .ensures) (meantWords4 (a .free)) in
     writes-refused _
     (laid-short (section (a .sys .now) (a .gfx .now)) _ (bonesOf (a .s .bones) (a .bones .now)) _ (omega (
       arith,
@@ -71,8 +71,8 @@ returns-3 c =
     .before .before .before .before .before .before .before .pre in
     let n = size-is h (c .before .before .before .before .before .before .before .before .entry-count .ensures) (c .before
     .before .before .before .before .before .before .place .ensures) (c .before .before .before .before .before .after
-    .ensures) (meantFree (a .free)) in
-    writes-done (layout (named (section (a .sys .now) (a .gfx .now)) (bonesOf (a .s .bones) (a .bones .now))) (meantFree (a
+    .ensures) (meantWords4 (a .free)) in
+    writes-done (layout (named (section (a .sys .now) (a .gfx .now)) (bonesOf (a .s .bones) (a .bones .now))) (meantWords4 (a
     .free)))
     (laid-done (section (a .sys .now) (a .gfx .now)) _ (bonesOf (a .s .bones) (a .bones .now)) _ (omega (
       arith,

@@ -4,7 +4,8 @@ use native.Mathlib.Omega.{arith}
 use borrow.Author.Tests.{leb-true}
 use Prim.Native.Nat.{_-_}
 use lib.ListN.{length, take, drop}
-use Rattle.write.proofs.Runs.{length-cut, just-stored, more-stored}
+use Rattle.fields.proofs.RunLaws.{length-part}
+use Rattle.write.proofs.Runs.{just-stored, more-stored}
 use Rattle.write.proofs.words.put_at_least.Statement.{statement}
 use Rattle.write.proofs.words.put_at_least.Tie as tie
 
@@ -47,7 +48,7 @@ returns-2 : tie.Need-returns-2
 returns-2 c =
     let s = c .before .before .before .before .before .before .before in
     let w = take (s .args .k) (drop (s .args .from) (s .args .s .now)) in
-    let size = length-cut (s .args .s .now) (s .args .from) (s .args .k) (s .pre .0) in
+    let size = length-part (s .args .s .now) (s .args .from) (s .args .k) (s .pre .0) in
     just-stored (s .args .limit) (s .args .d .now) (s .args .at) w (omega (arith, size, s .pre .1)) (c .before .before
     .put-run .ensures)
 

@@ -2,19 +2,21 @@
 use borrow.Author.Needs.{needs}
 use Prim.Native.Nat.{_-_}
 use lib.ListN.{take, drop}
-use Rattle.bones.proofs.Words.{Pasted, pasted-none}
-use Rattle.write.proofs.Runs.{cut-more, cut-all}
+use denote.Ref.{now}
+use Rattle.fields.proofs.RunLaws.{Put, put-none, put-more, put-all, part-word, length-part}
 use Rattle.write.proofs.words.put_run.Statement.{statement}
 use Rattle.write.proofs.words.put_run.Tie as tie
 
 abbrev Inv-loop : tie.InvT-loop
-Inv-loop d₀ at s from k i₀ d i = Pasted d₀ at (take k (drop from s)) d i
+Inv-loop d₀ at s from k i₀ d i = Put (take k (drop from s)) k d₀ at d i
 
 abbrev μ-loop : tie.MeasureT-loop
 μ-loop d₀ at s from k i₀ d i = k - i
 
 loop-holds : tie.Need-loop-holds Inv-loop μ-loop
-loop-holds c = pasted-none _ _ _
+loop-holds c =
+    let a = c .args in
+    put-none (take (a .k) (drop (a .from) (now (a .s)))) _ _ (length-part (now (a .s)) (a .from) (a .k) (c .pre .0))
 
 add-d : tie.Need-add-d Inv-loop μ-loop
 add-d c = search needs
@@ -36,17 +38,17 @@ loop-less c = search needs
 
 loop-again : tie.Need-loop-again Inv-loop μ-loop
 loop-again c =
-    let s = c .before .before .before in
-    cut-more (s .args .s .now) (s .args .from) (s .args .k) (s .pre .0) (s .pre .1) (c .before .before .loop .inv) (c .before
-    .loop-test .taken)
+    let h = c .before .loop-test .taken in
+    let l = c .before .before in
+    let a = l .before .args in
+    put-more (l .loop .inv) h (part-word (now (a .s)) (a .from) (a .k) (l .loop .i) h)
 
 same-length : tie.Need-same-length Inv-loop μ-loop
 same-length c = search needs
 
 returns : tie.Need-returns Inv-loop μ-loop
 returns c =
-    let s = c .before .before in
-    cut-all (s .args .s .now) (s .args .from) (s .args .k) (s .pre .0) (s .pre .1) (c .before .loop .inv) (c .loop-test .left)
+    put-all (c .before .loop .inv) (c .loop-test .left)
 
 pub put-run-spec : {M : Type 1} → statement M
 put-run-spec =

@@ -1,6 +1,6 @@
 -- `write::working::derive_tables` meets its contract. Assumes nothing.
 use borrow.Author.Needs.{needs}
-use Rattle.write.specs.Working.{tables}
+use Rattle.tables.specs.Working.{working}
 use Rattle.write.proofs.Tabling.{tags-stop, matrices-stop, indices-stop, all-derived, derived-stops}
 use Rattle.write.proofs.working.derive_tables.Statement.{statement}
 use Rattle.write.proofs.working.derive_tables.Tie as tie
@@ -22,7 +22,7 @@ returns c =
     let s = c .before .before .before .before .before .before .before .before .before .before .before .before .before
     .before .before .before .before .before in
     let a = s .args in
-    let x = tables (a .buckets .now) (a .entries .now) (a .inverse .now) (a .local .now) (a .parents .now) (a .children .now)
+    let x = working (a .buckets .now) (a .entries .now) (a .inverse .now) (a .local .now) (a .parents .now) (a .children .now)
     (a .pending .now) in
     let t = a .bones .now in
     derived-stops (a .n) t x (s .pre) _ (matrices-stop (a .n) t x (s .pre) (c .before .before .before .before .before
@@ -61,7 +61,7 @@ returns-2 c =
     .before .before .before .before .before .before .before .before .before .before .before .before .before .before .before
     .before .before in
     let a = s .args in
-    let x = tables (a .buckets .now) (a .entries .now) (a .inverse .now) (a .local .now) (a .parents .now) (a .children .now)
+    let x = working (a .buckets .now) (a .entries .now) (a .inverse .now) (a .local .now) (a .parents .now) (a .children .now)
     (a .pending .now) in
     let t = a .bones .now in
     derived-stops (a .n) t x (s .pre) _ (indices-stop (a .n) t x (s .pre) (c .before .before .before .before .before .before
@@ -103,7 +103,7 @@ returns-3 c =
     .before .before .before .before .before .before .before .before .before .before .before .before .before .before .before
     .before .before .before .before .before .before .before .before .before .before .before .before in
     let a = s .args in
-    let x = tables (a .buckets .now) (a .entries .now) (a .inverse .now) (a .local .now) (a .parents .now) (a .children .now)
+    let x = working (a .buckets .now) (a .entries .now) (a .inverse .now) (a .local .now) (a .parents .now) (a .children .now)
     (a .pending .now) in
     let t = a .bones .now in
     derived-stops (a .n) t x (s .pre) _ (tags-stop (a .n) t x (s .pre) (c .before .before .before .before .before .before
@@ -136,7 +136,7 @@ returns-4 c =
     .before .before .before .before .before .before .before .before .before .before .before .before .before .before .before
     .before .before .before .before .before .before .before .before .before .before .before in
     let a = s .args in
-    let x = tables (a .buckets .now) (a .entries .now) (a .inverse .now) (a .local .now) (a .parents .now) (a .children .now)
+    let x = working (a .buckets .now) (a .entries .now) (a .inverse .now) (a .local .now) (a .parents .now) (a .children .now)
     (a .pending .now) in
     let t = a .bones .now in
     let u = c .before .before .before .before .before .before .build-bone-tags in
@@ -145,7 +145,7 @@ returns-4 c =
     .build-transformations in
     let w = c .before .before .before .before .before .before .before .before .before .before .before .before .before
     .before .before .before .before .before .build-indices in
-    let y = tables (u .last .1 .1 .0) (u .last .1 .1 .1 .0) (v .last .1 .1 .0) (v .last .1 .1 .1 .0) (w .last .1 .1 .0)
+    let y = working (u .last .1 .1 .0) (u .last .1 .1 .1 .0) (v .last .1 .1 .0) (v .last .1 .1 .1 .0) (w .last .1 .1 .0)
     (w .last .1 .1 .1 .0) (w .last .1 .1 .1 .1 .0) in
     all-derived (a .n) t x (s .pre) y (u .ensures .0) (c .enum-told2 .given .1) (v .ensures .0) (c .before .before .before
     .before .before .before .before .before .before .before .before .before .before .before .before .before .before .before

@@ -30,13 +30,13 @@ use denote.Triple.Clauses.{ensured, lasts}
 use denote.Triple.Spec.{tripleOf}
 use denote.Triple.Table.{cited}
 use denote.Enum.Laws as EL
-use Rattle.blocks.specs.Cursor.{verdict}
-use Rattle.blocks.specs.declared.cursor.Checked.{Checked}
+use Rattle.blocks.specs.Cursor.{markedCheck}
+use Rattle.blocks.specs.declared.cursor.CursorCheck.{CursorCheck}
 use Rattle.blocks.specs.declared.cursor.Cursor.{Cursor}
 use Rattle.blocks.proofs.Apart.{B, Enter, Post, Own, exits, takes-apart}
 use Rattle.blocks.proofs.cursor.Cursor.Laws as T′
-use Rattle.blocks.proofs.cursor.Checked as S
-use Rattle.blocks.proofs.cursor.Checked.Laws as S′
+use Rattle.blocks.proofs.cursor.CursorCheck as S
+use Rattle.blocks.proofs.cursor.CursorCheck.Laws as S′
 use Rattle.blocks.proofs.cursor.refused_if as refused-if
 use Rattle.blocks.proofs.cursor.refused_if.Symbol as refused-def
 use Rattle.blocks.proofs.cursor.refused_if.Symbol.{name as #refused-if}
@@ -46,8 +46,8 @@ use Rattle.blocks.proofs.cursor.Cursor.check.Statement.{statement}
 use Rattle.blocks.proofs.cursor.Cursor.check.Code as code
 
 -- the answer
-abbrev told : Cursor → Checked
-told c = verdict (c .overrun)
+abbrev told : Cursor → CursorCheck
+told c = markedCheck (c .overrun)
 
 module _ {M : Type 1} (𝓤 : URA M) (H : Heap 𝓤) (A : Atoms 𝓤) (W : Given 𝓤 H A) (at-mem : Memory → SProp 𝓤) (run : Routine → Fun 𝓤) where
   -- the contract that the proof cites
@@ -61,7 +61,7 @@ module _ {M : Type 1} (𝓤 : URA M) (H : Heap 𝓤) (A : Atoms 𝓤) (W : Given
     goes : ent 𝓤 (emp 𝓤) (RefusedIf .pre to)
     goes = qed W [] ∵ nothing ! $ owned ! bool (Is bool) (bool-makes 𝓤 H A W) (d .overrun) _ refl $ fjoin ! $ nothing ! $ join ! $ frame ! $ done !
 
-    said : (r : Checked) → ent 𝓤 (ensured 𝓤 H A refused-if.ended (refused-if.clauses 𝓤 H A at-mem run) tt (d .overrun, tt) tt r) (fact 𝓤 (r ≡ told d))
+    said : (r : CursorCheck) → ent 𝓤 (ensured 𝓤 H A refused-if.ended (refused-if.clauses 𝓤 H A at-mem run) tt (d .overrun, tt) tt r) (fact 𝓤 (r ≡ told d))
     said r = exE 𝓤 _ (λ ws. snd∗ 𝓤 (sem 𝓤 H A (lasts refused-if.ended tt (d .overrun, tt) ws)) (fact 𝓤 (r ≡ told d)))
 
     module _ (C : Calls 𝓤 H) (Λ : Loops 𝓤 H) (fm : FmC 𝓤 H (W .laws) C) (known : Triple 𝓤 (C #refused-if) RefusedIf) where
@@ -77,7 +77,7 @@ module _ {M : Type 1} (𝓤 : URA M) (H : Heap 𝓤) (A : Atoms 𝓤) (W : Given
           -- [the token; what the cursor owns; _2; …; _1; …; room for _0; …]
           use0 W (raw (RefusedIf .pre to)) goes $
           calls-at ! fm RefusedIf known to (and-then ! (load ! (from ! (stop !)) (look ! 3 refl)) (no-more !)) (λ u.
-          use1 W (later (some (λ (r : Checked). (‵ ftrue ⊛ ‵ (S.the-row .own r (u ∷ []))) ⊛ raw
+          use1 W (later (some (λ (r : CursorCheck). (‵ ftrue ⊛ ‵ (S.the-row .own r (u ∷ []))) ⊛ raw
           (ensured 𝓤 H A refused-if.ended (refused-if.clauses 𝓤 H A at-mem run) tt (d .overrun, tt) tt r)))) (id⊢ 𝓤 _) $ await ! tt $
           pick ! (λ r.
           split ! $ move ! (1 ∷ []) $ use1 W (raw (fact 𝓤 (r ≡ told d))) (said r) $ heard ! (r ≡ told d) (λ e. split ! $ drop ! $

@@ -1,8 +1,8 @@
 -- `Cursor::vec3` meets its contract: a reader, at three words. Assumes nothing.
 use contract.Running.{givenOf}
 use denote.Struct.Laws as LL
-use Rattle.bones.proofs.Words3 as N
-use Rattle.bones.proofs.Words3.Laws as N′
+use Rattle.format.proofs.Words3 as N
+use Rattle.format.proofs.Words3.Laws as N′
 use Rattle.blocks.specs.Cursor.{words3At}
 use Rattle.blocks.proofs.Reading.{reads}
 use Rattle.blocks.proofs.cursor.words3_at.Symbol.{name as #value}

@@ -1,8 +1,8 @@
 -- `Cursor::vec4` meets its contract: a reader, at four words. Assumes nothing.
 use contract.Running.{givenOf}
 use denote.Struct.Laws as LL
-use Rattle.bones.proofs.Words4 as N
-use Rattle.bones.proofs.Words4.Laws as N′
+use Rattle.format.proofs.Words4 as N
+use Rattle.format.proofs.Words4.Laws as N′
 use Rattle.blocks.specs.Cursor.{words4At}
 use Rattle.blocks.proofs.Reading.{reads}
 use Rattle.blocks.proofs.cursor.words4_at.Symbol.{name as #value}

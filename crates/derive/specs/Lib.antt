@@ -1,5 +1,0 @@
-pub mod Tagging
-pub mod Index
-pub mod Pile
-pub mod Indexing
-pub mod Rooms

@@ -1,0 +1,3 @@
+pub mod Counts
+pub mod Tagging
+pub mod TagsOutcome

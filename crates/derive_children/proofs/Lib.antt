@@ -1,0 +1,10 @@
+pub mod Columns
+pub mod IndicesOutcome
+pub mod Positions
+pub mod Seeking
+pub mod ByParent
+pub mod Entering
+pub mod FirstChildren
+pub mod Pushing
+pub mod Taking
+pub mod Layers

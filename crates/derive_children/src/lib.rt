@@ -1,0 +1,5 @@
+// The lists that follow from the bones' indices and parents (document 01, "Deriving"): parents and children. The caller lends every
+// table; no call needs other memory.
+mod index; // the bones by parent
+mod pile; // the pending list
+pub mod indices; // `build_indices`

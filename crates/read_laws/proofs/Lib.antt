@@ -1,0 +1,4 @@
+pub mod Growing
+pub mod Bones
+pub mod Standing
+pub mod Held

@@ -1,1 +1,0 @@
-// What reading leaves in the bones table, over the definitions of `format`: laws, in `proofs/`. There is no code here.

@@ -1,0 +1,24 @@
+-- `rig::numbers::rig_put64` meets its contract (document 01, "Finding bytes"): its answer and its slice are those of `fields::put64`.
+-- Assumes nothing.
+use borrow.Author.Needs.{needs}
+use mathlib.Core.Path.{sym, _∙_}
+use Rattle.fields.proofs.Laws.{placed-inj}
+use Rattle.rig.proofs.numbers.rig_put64.Statement.{statement}
+use Rattle.rig.proofs.numbers.rig_put64.Tie as tie
+
+put64-requires : tie.Need-put64-requires
+put64-requires c κs = search needs
+
+stored-requires : tie.Need-stored-requires
+stored-requires c κs = search needs
+
+same-length : tie.Need-same-length
+same-length c = search needs
+
+returns : tie.Need-returns
+returns c =
+    let p = c .before .before .before .put64 .ensures in
+    (placed-inj _ _ (sym (c .stored .ensures) ∙ p .0), p .1)
+
+pub rig-put64-spec : {M : Type 1} → statement M
+rig-put64-spec = tie.close (tie.spec put64-requires stored-requires same-length returns)
