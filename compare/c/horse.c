@@ -9,23 +9,23 @@
 
 static const struct {
     const char *name;
-    int16_t parent;
+    int16_t parent, next_sibling;
     uint16_t tag;
     float translation[3];
 } horse[] = {
-    {"root", -1, 0, {0.0f, 0.0f, 0.0f}},
-    {"pelvis", 0, 11816, {0.0f, 1.4f, -0.5f}},
-    {"spine", 1, 23553, {0.0f, 0.1f, 0.8f}},
-    {"neck", 2, 39317, {0.0f, 0.5f, 0.4f}},
-    {"head", 3, 31086, {0.0f, 0.4f, 0.3f}},
-    {"jaw", 4, 46240, {0.0f, -0.2f, 0.2f}},
-    {"rein_l", 4, 2057, {-0.1f, -0.1f, 0.1f}},
-    {"rein_r", 4, 2086, {0.1f, -0.1f, 0.1f}},
-    {"fore_l", 2, 45509, {-0.2f, -0.6f, 0.2f}},
-    {"fore_r", 2, 40269, {0.2f, -0.6f, 0.2f}},
-    {"hind_l", 1, 58271, {-0.2f, -0.6f, -0.1f}},
-    {"hind_r", 1, 51826, {0.2f, -0.6f, -0.1f}},
-    {"tail", 1, 839, {0.0f, 0.1f, -0.4f}},
+    {"root", -1, -1, 0, {0.0f, 0.0f, 0.0f}},
+    {"pelvis", 0, -1, 11816, {0.0f, 1.4f, -0.5f}},
+    {"spine", 1, 10, 23553, {0.0f, 0.1f, 0.8f}},
+    {"neck", 2, 8, 39317, {0.0f, 0.5f, 0.4f}},
+    {"head", 3, -1, 31086, {0.0f, 0.4f, 0.3f}},
+    {"jaw", 4, 6, 46240, {0.0f, -0.2f, 0.2f}},
+    {"rein_l", 4, 7, 2057, {-0.1f, -0.1f, 0.1f}},
+    {"rein_r", 4, -1, 2086, {0.1f, -0.1f, 0.1f}},
+    {"fore_l", 2, 9, 45509, {-0.2f, -0.6f, 0.2f}},
+    {"fore_r", 2, -1, 40269, {0.2f, -0.6f, 0.2f}},
+    {"hind_l", 1, 11, 58271, {-0.2f, -0.6f, -0.1f}},
+    {"hind_r", 1, 12, 51826, {0.2f, -0.6f, -0.1f}},
+    {"tail", 1, -1, 839, {0.0f, 0.1f, -0.4f}},
 };
 
 enum { BONES = 13, BUCKETS = 29, CHILDREN = 40 };
@@ -48,7 +48,7 @@ static void fill_row(uint32_t row[RIG_BONE_WORDS], size_t position, size_t name_
     memcpy(row + RIG_BONE_ROTATION, rotation, sizeof rotation);
     memcpy(row + RIG_BONE_TRANSLATION, horse[position].translation, sizeof horse[position].translation);
     memcpy(row + RIG_BONE_SCALE, scale, sizeof scale);
-    row[RIG_BONE_PARENT] = RIG_PAIR(-1, horse[position].parent);
+    row[RIG_BONE_PARENT] = RIG_PAIR(horse[position].next_sibling, horse[position].parent);
     row[RIG_BONE_INDEX] = RIG_PAIR(0, position);
     row[RIG_BONE_TAG] = horse[position].tag;
     row[RIG_BONE_NAME_ADDRESS] = (uint32_t)(RIG_SYSTEM_BASE + name_at);

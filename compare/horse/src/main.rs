@@ -9,7 +9,7 @@ use std::path::Path;
 use std::{env, fs, io};
 
 /// Name, parent, tag and translation of each bone. The tags of the head, both reins and the tail leave 27 modulo 29, the
-/// bucket count of 13 bones: they share a chain.
+/// bucket count of 13 bones: they share a chain. Index and next sibling of a bone follow from its place in the list.
 const HORSE: [(&str, i16, u16, [f32; 3]); 13] = [
     ("root", -1, 0, [0.0, 0.0, 0.0]),
     ("pelvis", 0, 11816, [0.0, 1.4, -0.5]),
@@ -29,10 +29,17 @@ const HORSE: [(&str, i16, u16, [f32; 3]); 13] = [
 /// The tag whose chain is cut.
 const HEAD: u64 = 31086;
 
+/// The next bone of the same parent, or -1.
+fn next_sibling(position: usize) -> i16 {
+    let same = |later: &usize| HORSE[*later].1 == HORSE[position].1;
+    (position + 1..HORSE.len()).find(same).map_or(-1, |later| later as i16)
+}
+
 fn horse() -> Vec<Bone> {
     let bone = |(i, (name, parent, tag, at)): (usize, &(&str, i16, u16, [f32; 3]))| Bone {
         name: Some(name.as_bytes().to_vec()),
         tag: *tag,
+        next_sibling: next_sibling(i),
         translation: at.map(f32::to_bits),
         ..plain_bone(i, *parent)
     };

@@ -16,6 +16,10 @@ fn reads() {
     assert_eq!(horse.bones.iter().map(|bone| bone.name_lossy().expect("a name")).collect::<Vec<_>>(), NAMES);
     assert_eq!((horse.bucket_count, horse.bone_count, horse.child_count), (29, 13, horse.children.len() as u16));
     assert_eq!(horse.parents, horse.bones.iter().map(|bone| bone.parent).collect::<Vec<_>>());
+    for (at, bone) in horse.bones.iter().enumerate() {
+        let next = horse.bones[at + 1..].iter().find(|later| later.parent == bone.parent);
+        assert_eq!(bone.next_sibling, next.map_or(-1, |next| next.index));
+    }
     assert_eq!((horse.inverse.len(), horse.local.len(), horse.chains.len()), (13, 13, 29));
     assert_eq!(horse.chains.entries().len(), 13);
     assert_eq!(horse.chains.iter().map(Iterator::count).sum::<usize>(), 13);
