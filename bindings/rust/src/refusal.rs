@@ -26,6 +26,7 @@ macro_rules! refusals {
     };
 }
 
+// `./check` takes its sentences from these lines: number and sentence stay in one line.
 refusals! {
     /// A lent table is too short. No call of this crate gives it: the tables are lent long enough.
     TableTooShort = 1, "a table lent to the library is too short";
