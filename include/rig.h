@@ -83,11 +83,18 @@ enum {
 
 /* ---- rows of the lent tables ---- */
 
+/* a cast, for the macros below */
+#ifdef __cplusplus
+#define RIG_AS(type, value) static_cast<type>(value)
+#else
+#define RIG_AS(type, value) ((type)(value))
+#endif
+
 /* Floats are held as their 32 bits. Signed 16-bit numbers are held as patterns: from 32768 on they are negative, 65535 is -1.
  * Two of them share a word, one in the lower and one in the upper half. */
-#define RIG_LOWER(word) ((uint16_t)((uint32_t)(word) & 0xFFFFu))
-#define RIG_UPPER(word) ((uint16_t)((uint32_t)(word) >> 16))
-#define RIG_PAIR(lower, upper) ((uint32_t)(uint16_t)(lower) | (uint32_t)(uint16_t)(upper) << 16)
+#define RIG_LOWER(word) RIG_AS(uint16_t, RIG_AS(uint32_t, word) & 0xFFFFu)
+#define RIG_UPPER(word) RIG_AS(uint16_t, RIG_AS(uint32_t, word) >> 16)
+#define RIG_PAIR(lower, upper) (RIG_AS(uint32_t, RIG_AS(uint16_t, lower)) | RIG_AS(uint32_t, RIG_AS(uint16_t, upper)) << 16)
 
 /* A bone's row: which word holds what. Any words are a bone. */
 enum {
@@ -139,30 +146,30 @@ enum {
 /* ---- how much to lend, in items of the table ---- */
 
 /* For deriving from n bones, and so for writing and checking them. Buckets and entries are not used below two bones. */
-#define RIG_BONES_LENT(n) (RIG_BONE_WORDS * (size_t)(n))
-#define RIG_BUCKETS_LENT(n) ((n) < 2 ? (size_t)0 : rig_num_hash_buckets(n))
-#define RIG_ENTRIES_LENT(n) ((n) < 2 ? (size_t)0 : RIG_ENTRY_WORDS * (size_t)(n))
-#define RIG_MATRICES_LENT(n) (RIG_MATRIX_WORDS * (size_t)(n))
-#define RIG_PARENTS_LENT(n) ((size_t)(n))
-#define RIG_CHILDREN_LENT(n) (8 * ((size_t)(n) + 1))
-#define RIG_PENDING_LENT(n) (RIG_PENDING_WORDS * 4 * ((size_t)(n) + 1))
+#define RIG_BONES_LENT(n) (RIG_BONE_WORDS * RIG_AS(size_t, n))
+#define RIG_BUCKETS_LENT(n) ((n) < 2 ? RIG_AS(size_t, 0) : rig_num_hash_buckets(n))
+#define RIG_ENTRIES_LENT(n) ((n) < 2 ? RIG_AS(size_t, 0) : RIG_ENTRY_WORDS * RIG_AS(size_t, n))
+#define RIG_MATRICES_LENT(n) (RIG_MATRIX_WORDS * RIG_AS(size_t, n))
+#define RIG_PARENTS_LENT(n) RIG_AS(size_t, n)
+#define RIG_CHILDREN_LENT(n) (8 * (RIG_AS(size_t, n) + 1))
+#define RIG_PENDING_LENT(n) (RIG_PENDING_WORDS * 4 * (RIG_AS(size_t, n) + 1))
 
 /* For reading: buckets, bones, matrices and parents by the record's counts, children by the greater of its child and bone counts,
  * entries by how many the chains reach (in an accepted section RIG_ENTRIES_LENT of its bones). The pool wants a row for each
  * distinct address that is read: these words are always enough, where the entry table has `entries` rows. */
-#define RIG_POOL_LENT(entries, bones) (RIG_POOL_WORDS * ((size_t)(entries) + 2 * (size_t)(bones) + 7))
+#define RIG_POOL_LENT(entries, bones) (RIG_POOL_WORDS * (RIG_AS(size_t, entries) + 2 * RIG_AS(size_t, bones) + 7))
 
 /* The bytes of a written section of n bones: `names` is the sum of the names' sizes, one more for each name, and `children` the
  * number of child entries (by rig_build_indices; at most RIG_CHILDREN_LENT(n)). None has more than RIG_SECTION_MOST. */
-#define RIG_FILLED(bytes) (((size_t)(bytes) + 15) / 16 * 16)
+#define RIG_FILLED(bytes) ((RIG_AS(size_t, bytes) + 15) / 16 * 16)
 #define RIG_SECTION_BYTES(n, names, children)                                                                                     \
     (112 + RIG_FILLED(8 * RIG_BUCKETS_LENT(n)) + 16 * (RIG_ENTRIES_LENT(n) / RIG_ENTRY_WORDS) +                                   \
-     ((n) == 0 ? (size_t)0 : 16 + 80 * (size_t)(n)) + RIG_FILLED(names) + 2 * 64 * (size_t)(n) + RIG_FILLED(2 * (size_t)(n)) +    \
-     RIG_FILLED(2 * (size_t)(children)))
-#define RIG_SECTION_MOST ((size_t)32243232)
+     ((n) == 0 ? RIG_AS(size_t, 0) : 16 + 80 * RIG_AS(size_t, n)) + RIG_FILLED(names) + 2 * 64 * RIG_AS(size_t, n) +              \
+     RIG_FILLED(2 * RIG_AS(size_t, n)) + RIG_FILLED(2 * RIG_AS(size_t, children)))
+#define RIG_SECTION_MOST RIG_AS(size_t, 32243232)
 
 /* the bytes of a written section of r rotation and t translation limits */
-#define RIG_JOINTS_BYTES(r, t) (64 + 192 * (size_t)(r) + 64 * (size_t)(t))
+#define RIG_JOINTS_BYTES(r, t) (64 + 192 * RIG_AS(size_t, r) + 64 * RIG_AS(size_t, t))
 
 /* ---- fields: little-endian numbers in bytes ---- */
 
