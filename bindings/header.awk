@@ -1,6 +1,9 @@
 # The prototypes of a C header, as exports.awk prints them: a parameter on each line, and the size of an array as a number, also where an
-# enum of the header names it. Comments, and lines for the preprocessor, are passed over.
+# enum of the header names it. Comments, lines for the preprocessor, and the functions that the header defines itself (from `static inline` to
+# a brace at the start of a line) are passed over.
 hidden || /^#/ { hidden = /\\$/; next }
+/^static inline / { defined = 1 }
+defined { if (/^}/) defined = 0; next }
 { text = text $0 " " }
 
 function prototype(text,   name) {

@@ -55,6 +55,52 @@ enum rig_status {
     RIG_NONE = 100
 };
 
+/* What a status means, in a sentence for whoever made the rig; of a number that is no status, that it is none. Never null, and not
+ * to be freed. It is no function of the library. */
+static inline const char *rig_status_text(uint32_t status)
+{
+    switch (status) {
+    case RIG_OK:
+        return "nothing is refused: the call did what was asked";
+    case RIG_TABLE_TOO_SHORT:
+        return "a table lent to the library is too short";
+    case RIG_TOO_MANY_BONES:
+        return "there are more than 65,535 bones";
+    case RIG_TOO_MANY_CHILDREN:
+        return "the child list of these bones would have more than 65,535 entries: too many bones have a parent";
+    case RIG_BAD_NAME:
+        return "a bone's name is longer than 255 bytes or holds a zero byte";
+    case RIG_BUFFER_TOO_SHORT:
+        return "the buffer to write into is too short";
+    case RIG_TOO_MANY_LIMITS:
+        return "there are more than 65,535 rotation limits or translation limits";
+    case RIG_BAD_ADDRESS:
+        return "a pointer leads to neither the system nor the graphics section";
+    case RIG_PAST_THE_END:
+        return "a pointer, or what it leads to, runs past the end of its section: the file is cut short, or the pointer is wrong";
+    case RIG_OTHER_KIND:
+        return "two pointers lead to one place and take it for different things";
+    case RIG_BONES_POINTER:
+        return "the pointer to the bones is from 1 to 15, where no bones can be";
+    case RIG_CHAIN_TOO_LONG:
+        return "the tag's chain has more entries than there are bones: it runs in a circle, or entries are stored twice";
+    case RIG_CHAINS_DIFFER:
+        return "the tag chains differ from those that follow from the bones: the game would not find each bone by its tag";
+    case RIG_PARENTS_DIFFER:
+        return "the parent list differs from the parents that the bones store";
+    case RIG_CHILDREN_DIFFER:
+        return "the child list differs from the one that follows from the bones' indices and parents";
+    case RIG_INVERSE_DIFFER:
+        return "the inverse matrices differ from those that follow from the bones' rotations, translations and parents";
+    case RIG_LOCAL_DIFFER:
+        return "the local matrices differ from those that follow from each bone's rotation, translation and scale";
+    case RIG_NONE:
+        return "there is nothing: the root address is 0, or no bone is found";
+    default:
+        return "this number is no status of the library";
+    }
+}
+
 /* ---- sections ---- */
 
 /* A section is its system bytes (`sys`) and its graphics bytes (`gfx`, often none). An address leads to a byte of one of them:

@@ -10,6 +10,7 @@ void damaged_horses(const char *path);
 void bones_by_hand(void);
 void fields(void);
 void cursor(void);
+void status_texts(void);
 void bucket_counts(void);
 void hashes(void);
 void matrices(void);

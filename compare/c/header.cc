@@ -1,4 +1,4 @@
-// The header in C++: each of its macros. compare/c/run compiles it, and does not link it.
+// The header in C++: each of its macros, and the function that it defines itself. compare/c/run compiles it, and does not link it.
 #include "rig.h"
 
 static_assert(RIG_SYSTEM_BASE == 0x50000000u && RIG_GRAPHICS_BASE == 0x60000000u && RIG_WRITTEN_ROOT == RIG_SYSTEM_BASE, "bases");
@@ -17,3 +17,7 @@ size_t lent(size_t n, int i)
     return RIG_BUCKETS_LENT(n) + RIG_SECTION_BYTES(n, n, n) + RIG_PAIR(i, n) + RIG_POOL_LENT(i, n) + RIG_JOINTS_BYTES(i, n);
 }
 
+const char *text(uint32_t status)
+{
+    return rig_status_text(status);
+}

@@ -17,6 +17,7 @@ int main(int argc, char **argv)
     }
     fields();
     cursor();
+    status_texts();
     bucket_counts();
     hashes();
     matrices();

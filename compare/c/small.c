@@ -1,4 +1,4 @@
-/* Fields, a cursor, bucket counts, hashes, matrices and joints. */
+/* Fields, a cursor, texts of statuses, bucket counts, hashes, matrices and joints. */
 #include "checks.h"
 #include "lent.h"
 #include "rig.h"
@@ -77,6 +77,38 @@ void cursor(void)
     cursor_from(s, 0, 3, whole);
     cursor_from(s, 48, 3, past);
     give_back();
+}
+
+/* ---- the texts of statuses; bindings/refusals has read those of the refusals ---- */
+
+static void expect_text(uint32_t status, const char *wanted)
+{
+    expect(strcmp(rig_status_text(status), wanted) == 0, "the text of status %lu", (unsigned long)status);
+}
+
+/* Each status has a text of its own, and every other number that of none. */
+void status_texts(void)
+{
+    static const uint32_t statuses[] = {
+        RIG_OK, RIG_TABLE_TOO_SHORT, RIG_BUFFER_TOO_SHORT, RIG_TOO_MANY_BONES, RIG_TOO_MANY_CHILDREN, RIG_BAD_NAME,
+        RIG_TOO_MANY_LIMITS, RIG_BAD_ADDRESS, RIG_PAST_THE_END, RIG_OTHER_KIND, RIG_BONES_POINTER, RIG_CHAIN_TOO_LONG,
+        RIG_CHAINS_DIFFER, RIG_PARENTS_DIFFER, RIG_CHILDREN_DIFFER, RIG_INVERSE_DIFFER, RIG_LOCAL_DIFFER, RIG_NONE,
+    };
+    const char *none = rig_status_text(UINT32_MAX);
+    bool known[RIG_NONE + 1] = {false};
+    for (size_t i = 0; i < sizeof statuses / sizeof *statuses; i++) {
+        known[statuses[i]] = true;
+        for (size_t j = 0; j < i; j++)
+            expect(strcmp(rig_status_text(statuses[i]), rig_status_text(statuses[j])) != 0, "texts %zu and %zu are one", j, i);
+        expect(strcmp(rig_status_text(statuses[i]), none) != 0, "text %zu is that of none", i);
+    }
+    for (uint32_t status = 0; status <= 2 * RIG_NONE; status++)
+        if (status > RIG_NONE || !known[status])
+            expect_text(status, none);
+    expect_text(RIG_OK, "nothing is refused: the call did what was asked");
+    expect_text(RIG_BONES_POINTER, "the pointer to the bones is from 1 to 15, where no bones can be");
+    expect_text(RIG_NONE, "there is nothing: the root address is 0, or no bone is found");
+    expect_text(UINT32_MAX, "this number is no status of the library");
 }
 
 /* ---- bucket counts and hashes ---- */

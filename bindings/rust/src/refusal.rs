@@ -2,7 +2,7 @@
 
 use std::fmt;
 
-/// The table of refusals: each with its number and its sentence.
+/// The table of refusals: each with its number and its sentence, which `include/rig.h` has word for word (`bindings/refusals`).
 macro_rules! refusals {
     ($($(#[$doc:meta])* $name:ident = $number:literal, $sentence:literal;)*) => {
         /// Why a call refused. The numbers are those that the library and the program `skeleton_check` give.
