@@ -8,6 +8,9 @@
  *   parameter says, or to one.
  * - What a call may change (a pointer that is not const) overlaps nothing else that the call is lent.
  * - Nobody else writes what is lent, or reads what the call may change, until the call returns.
+ * - The float environment is the default one: round to nearest, keep subnormal numbers (no flush-to-zero, no denormals-are-zero),
+ *   do not trap. In another, good sections may be refused with 24 or 25, and what is written may be refused so in the default one;
+ *   a trap is a signal in the midst of a call. A call may raise the float exception flags, and leaves the modes as they were.
  * Nothing else is asked: whatever the bytes, addresses, numbers and lengths, a call ends with a result or a refusal. The library
  * allocates nothing and keeps nothing from one call to the next. A lent table may be longer than is needed. */
 #ifndef RIG_H
