@@ -157,7 +157,8 @@ enum {
     RIG_BONE_TAG = 12,          /* lower half; the upper half is stored as 0 and not looked at */
     RIG_BONE_KEPT = 13,         /* 4 words, column 4 of the bone's local matrix */
     RIG_BONE_NAME_ADDRESS = 17, /* 2 words, the lower first; 0: the bone has no name */
-    RIG_BONE_NAME_SIZE = 19,    /* 2 words, the lower first: the bytes of the name, its ending zero not counted */
+    RIG_BONE_NAME_SIZE = 19,    /* 2 words, the lower first: the bytes of the name, its ending zero not counted; with name address 0
+                                   it is not looked at, and 0 is read */
     RIG_BONE_WORDS = 21
 };
 
@@ -290,7 +291,8 @@ void rig_set_column4(float m[RIG_MATRIX_WORDS], const float v[4]);
 
 /* ---- a skeleton's section ---- */
 
-/* What rig_read puts into `fields`. A part whose pointer is 0 does not stand (of the bones: 0 or 16). */
+/* What rig_read puts into `fields`. A part whose pointer is 0 does not stand (of the bones: 0 or 16). One whose count is 0 stands,
+ * empty: its pointer is not examined, whatever it is (of the bones it is), but counts as read: a bones' block there is 12. */
 enum {
     RIG_READ_KIND = 0, /* the kind word, as it is stored */
     RIG_READ_FREE = 1, /* 4 numbers: the words at 28, 80, 84 and 88 of the record */
@@ -319,7 +321,9 @@ enum {
  * order: 10, 11 for the record's 98 bytes; then buckets with their chains, bones (13 first) with their names, inverse, local,
  * parents, children; at each address 12 (the last four never), 10, 11; and 1 where a row would go into a full table, the pool among
  * them: a bone after its name, a bucket after its chain, a list after its bytes. Unless RIG_OK, all tables and `fields` are zero.
- * `pool` is a working table, zero after every call. */
+ * The bones' block is sought at their pointer - 16, and that address alone is examined: 50000000 to 5000000F hex are 10, 60000000
+ * to 6000000F 11 (unless `sys` is so long). Children at the parents' address are the parents, as many as there are, whatever the
+ * child count; local matrices at the inverse matrices' address are these. `pool` is a working table, zero after every call. */
 uint32_t rig_read(const uint8_t *sys, size_t sys_len, const uint8_t *gfx, size_t gfx_len, uint64_t root, uint32_t *bones,
                   size_t bones_len, uint32_t *buckets, size_t buckets_len, uint32_t *entries, size_t entries_len,
                   uint32_t *inverse, size_t inverse_len, uint32_t *local, size_t local_len, uint16_t *parents, size_t parents_len,
@@ -339,9 +343,9 @@ uint32_t rig_write(const uint32_t *bones, size_t bones_len, size_t n, const uint
 
 /* Looks up a tag, down the chain of the bucket whose number is the tag modulo the bucket count. RIG_OK: `*position` is that of the
  * first entry with the tag; in a section that rig_check accepts, the greatest position of a bone with it. RIG_NONE: root 0, no
- * buckets, or no entry with the tag; in an accepted section of two or more bones, no bone has it. Refuses 10, 11 for the record's
- * 98 bytes, then for the whole bucket array; then of each entry 14 where as many as the stored bone count were visited, 10, 11.
- * Unless RIG_OK, `*position` is 0. */
+ * buckets (pointer or count 0, whatever the other), or no entry with the tag; in an accepted section of two or more bones, no bone
+ * has it. Refuses 10, 11 for the record's 98 bytes, then for the whole bucket array; then of each entry 14 where as many as the
+ * stored bone count were visited, 10, 11. Unless RIG_OK, `*position` is 0. */
 uint32_t rig_lookup(const uint8_t *sys, size_t sys_len, const uint8_t *gfx, size_t gfx_len, uint64_t root, uint16_t tag,
                     uint32_t *position);
 
@@ -375,7 +379,8 @@ uint32_t rig_search(const uint8_t *sys, size_t sys_len, const uint8_t *gfx, size
 
 /* ---- joints ---- */
 
-/* What rig_joints_read puts into `fields`. A list whose pointer is 0 does not stand. */
+/* What rig_joints_read puts into `fields`. A list whose pointer is 0 does not stand. One whose count is 0 stands, empty, and its
+ * pointer is not examined, whatever it is. */
 enum {
     RIG_JOINTS_READ_KIND = 0, /* the kind word, as it is stored */
     /* the counts that the record stores */

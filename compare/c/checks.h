@@ -6,6 +6,7 @@
 void whole_horse(const char *path);
 void cut_horse(const char *path);
 void damaged_horses(const char *path);
+void odd_pointers(const char *path);
 void float_modes(const char *path);
 
 void bones_by_hand(void);

@@ -25,7 +25,7 @@ static struct reading lend_reading(struct bytes sys)
 {
     size_t buckets = rig_u16_at(LENT(sys), RIG_SKELETON_BUCKET_COUNT_AT);
     size_t n = rig_u16_at(LENT(sys), RIG_SKELETON_BONE_COUNT_AT);
-    size_t children = rig_u16_at(LENT(sys), RIG_SKELETON_CHILD_COUNT_AT);
+    size_t stored = rig_u16_at(LENT(sys), RIG_SKELETON_CHILD_COUNT_AT), children = stored > n ? stored : n;
     return (struct reading){
         .bones = lend_words("bones", RIG_BONES_LENT(n) + MORE),
         .buckets = lend_words("buckets", buckets + MORE),

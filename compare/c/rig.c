@@ -25,6 +25,7 @@ int main(int argc, char **argv)
     whole_horse(argv[1]);
     cut_horse(argv[2]);
     damaged_horses(argv[1]);
+    odd_pointers(argv[1]);
     float_modes(argv[1]);
     bones_by_hand();
     printf("c: %lu expectations met\n", expectations);

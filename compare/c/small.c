@@ -279,6 +279,28 @@ static void limits_are_not_read(const struct joints *j, uint64_t root, uint32_t 
     expect_zero(tables, 3, what);
 }
 
+/* Lists of count 0, whose pointers lead nowhere: they stand, and are not examined. */
+static void empty_limits_are_read(struct joints j, struct bytes written)
+{
+    static const uint32_t fields[RIG_JOINTS_READ_FIELDS] = {
+        [RIG_JOINTS_READ_KIND] = RIG_JOINTS_KIND,
+        [RIG_JOINTS_READ_ROTATION] = 1,
+        [RIG_JOINTS_READ_TRANSLATION] = 1,
+    };
+    const struct span tables[] = {SPAN(j.rotation), SPAN(j.translation)};
+    j.sys = lend_bytes("sys", written.len);
+    memcpy(j.sys.at, written.at, written.len);
+    expect(rig_put64(LENT(j.sys), 16, 1) && rig_put64(LENT(j.sys), 24, UINT64_MAX), "rig_put64 of the pointers to limits");
+    expect(rig_put32(LENT(j.sys), 48, 0), "rig_put32 of the counts of limits");
+    struct bytes copy = lend_bytes("a copy", j.sys.len);
+    memcpy(copy.at, j.sys.at, j.sys.len);
+    uint32_t status = rig_joints_read(LENT(j.sys), LENT(j.gfx), RIG_WRITTEN_ROOT, LENT(j.rotation), LENT(j.translation), j.fields.at);
+    expect_number(status, RIG_OK, "rig_joints_read of no limits");
+    expect(same(j.fields.at, fields, sizeof fields), "the fields of rig_joints_read of no limits");
+    expect_zero(tables, 2, "rig_joints_read of no limits");
+    expect(same(copy.at, j.sys.at, j.sys.len), "the section of no limits");
+}
+
 void joints(void)
 {
     struct words rotations = lend_rotations(), translations = lend_translations();
@@ -293,6 +315,7 @@ void joints(void)
         .fields = lend_words("fields", RIG_JOINTS_READ_FIELDS),
     };
     limits_are_read(&j, rotations, translations);
+    empty_limits_are_read(j, sys);
     limits_are_not_read(&j, 0, RIG_NONE, "root 0");
     limits_are_not_read(&j, RIG_GRAPHICS_BASE, RIG_PAST_THE_END, "a root in an empty half");
     j.translation.len = translations.len - 1;
