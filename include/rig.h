@@ -250,8 +250,9 @@ enum {
 };
 
 /* Reads by a cursor over the `s_len` bytes, which starts at offset `pos`: each kind of read once, then a skip of n bytes. A read
- * that runs past the end gives 0, of a vector for each of its numbers; a skip past the end does no harm. Gives false where `out` has no room for the
- * numbers, and every word of it is then as it was. A position, or an address, above 2^64 - 1 is 2^64 - 1. */
+ * that runs past the end gives 0, of a vector for each of its numbers; a skip past the end does no harm. Gives true, and the words of
+ * `out` behind the fifteen numbers are as they were; or false where it has no room for them, and every word of it is as it was. A
+ * position, or an address, above 2^64 - 1 is 2^64 - 1. */
 bool rig_cursor(const uint8_t *s, size_t s_len, size_t pos, uint64_t base, size_t n, uint64_t *out, size_t out_len);
 
 /* ---- deriving: the tables that follow from the first n bones of a table ---- */
