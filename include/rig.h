@@ -3,9 +3,9 @@
  * of the library; that these declarations fit it is not proved, but compared by bindings/exports and run by compare/c.
  *
  * What the caller must see to, since C cannot:
- * - A table or buffer is lent as a pointer and, behind it, the number of its items. The pointer is aligned for its items, valid
- *   for that many, and never null, even where the number is 0. A pointer without a number leads to as many items as its
- *   parameter says, or to one.
+ * - A table or buffer is lent as a pointer and, behind it, the number of its items. The pointer is aligned for its items and valid
+ *   for that many. Where the number is 0 the pointer may be any, also null: this is not proved, but tried of every call. A pointer
+ *   without a number is never null, and leads to as many items as its parameter says, or to one.
  * - What a call may change (a pointer that is not const) overlaps nothing else that the call is lent.
  * - Nobody else writes what is lent, or reads what the call may change, until the call returns.
  * - The float environment is the default one: round to nearest, keep subnormal numbers (no flush-to-zero, no denormals-are-zero),

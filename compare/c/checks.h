@@ -8,6 +8,7 @@ void cut_horse(const char *path);
 void damaged_horses(const char *path);
 void odd_pointers(const char *path);
 void float_modes(const char *path);
+void empty_tables(const char *path);
 
 void bones_by_hand(void);
 void fields(void);

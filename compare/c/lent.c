@@ -77,6 +77,15 @@ void soil(void)
             memset(table_of(b), DIRT, b->size);
 }
 
+uint64_t lent_held(void)
+{
+    uint64_t held = 0; /* a polynomial of the bytes: a change of a single one always shows */
+    for (struct block *b = blocks; b != NULL; b = b->next)
+        for (size_t i = 0; b->kept == NULL && i < b->size; i++)
+            held = held * UINT64_C(0x100000001B3) + table_of(b)[i];
+    return held;
+}
+
 void give_back(void)
 {
     while (blocks != NULL) {

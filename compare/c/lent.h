@@ -31,6 +31,9 @@ void keep(void);
 /* All else that is lent is dirty again. */
 void soil(void);
 
+/* What all else holds, as one number: another where a byte is another. */
+uint64_t lent_held(void);
+
 /* what each byte of a dirty table is */
 enum { DIRT = 0xA5 };
 

@@ -26,6 +26,7 @@ int main(int argc, char **argv)
     cut_horse(argv[2]);
     damaged_horses(argv[1]);
     odd_pointers(argv[1]);
+    empty_tables(argv[1]);
     float_modes(argv[1]);
     bones_by_hand();
     printf("c: %lu expectations met\n", expectations);
