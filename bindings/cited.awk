@@ -1,12 +1,15 @@
-# What comments cite of the format, by the words quoted behind "document 01" or "docs/FORMAT.md": after a colon a phrase, else a section. Notes
-# the sections that are no heading of docs/FORMAT.md and the phrases that do not stand there. Files: docs/FORMAT.md first, then the sources.
-function cited(text,    mark, before, quoted, rest, end) {
-    while (match(text, /[Dd]ocument 01|docs\/FORMAT\.md/)) {
-        mark = substr(text, RSTART, RLENGTH)
+# What comments cite of the format, by the words quoted behind "docs/FORMAT.md": after a colon a phrase, else a section. Tells of sections that
+# are no heading there, of phrases that do not stand there and of papers that are not in the repository, and then ends with 1.
+# Files: docs/FORMAT.md first, then the sources.
+function cited(text,    before, quoted, rest, end) {
+    if (match(text, /[Dd]ocument 0[0-9]/)) {
+        print "cited: not in the repository: " substr(text, RSTART, RLENGTH)
+        wrong++
+    }
+    while (match(text, /docs\/FORMAT\.md/)) {
         rest = text = substr(text, RSTART + RLENGTH)
-        if (mark ~ /01$/) paper++
-        else page++
-        # a few words may stand between: `document 01 gives the refusals ("..."`
+        times++
+        # a few words may stand between
         if (!match(rest, /^[^".]*"/) || RLENGTH > 30) continue
         do {
             before = substr(rest, 1, RLENGTH - 1)
@@ -35,9 +38,12 @@ END {
     gsub(/ +/, " ", format)
     for (s in sections) {
         named += sections[s]
-        if (!(s in heading)) print "note: no section of docs/FORMAT.md: \"" s "\", cited " sections[s] " times"
+        if (!(s in heading)) { print "cited: no section of docs/FORMAT.md: \"" s "\""; wrong++ }
     }
-    for (p in phrases) if (!index(format, p)) print "note: no words of docs/FORMAT.md: \"" p "\", cited " phrases[p] " times"
-    print "note: comments of crates cite the format " paper + page " times, a section by its name " named + 0 " times: " \
-        page + 0 " times as docs/FORMAT.md, " paper + 0 " times as document 01"
+    for (p in phrases) {
+        said += phrases[p]
+        if (!index(format, p)) { print "cited: no words of docs/FORMAT.md: \"" p "\""; wrong++ }
+    }
+    if (!wrong) print "cited: " times + 0 " times docs/FORMAT.md, a section " named + 0 " times and its words " said + 0 " times, as they stand there"
+    exit wrong > 0
 }

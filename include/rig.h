@@ -72,7 +72,7 @@ static inline const char *rig_status_text(uint32_t status)
     case RIG_TOO_MANY_CHILDREN:
         return "the child list of these bones would have more than 65,535 entries: too many bones have a parent";
     case RIG_BAD_NAME:
-        return "a bone's name is longer than 255 bytes or holds a zero byte";
+        return "a bone's name is longer than 255 bytes, holds a zero byte or lies outside the lent name bytes";
     case RIG_BUFFER_TOO_SHORT:
         return "the buffer to write into is too short";
     case RIG_TOO_MANY_LIMITS:
@@ -86,7 +86,7 @@ static inline const char *rig_status_text(uint32_t status)
     case RIG_BONES_POINTER:
         return "the pointer to the bones is from 1 to 15, where no bones can be";
     case RIG_CHAIN_TOO_LONG:
-        return "the tag's chain has more entries than there are bones: it runs in a circle, or entries are stored twice";
+        return "the tag's chain has more entries than the stored bone count: it runs in a circle, or the count or a link is wrong";
     case RIG_CHAINS_DIFFER:
         return "the tag chains differ from those that follow from the bones: the game would not find each bone by its tag";
     case RIG_PARENTS_DIFFER:

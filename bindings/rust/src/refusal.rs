@@ -35,7 +35,7 @@ refusals! {
     /// Writing only.
     TooManyChildren = 3, "the child list of these bones would have more than 65,535 entries: too many bones have a parent";
     /// Writing only.
-    BadName = 4, "a bone's name is longer than 255 bytes or holds a zero byte";
+    BadName = 4, "a bone's name is longer than 255 bytes, holds a zero byte or lies outside the lent name bytes";
     /// The output buffer is too short. No call of this crate gives it: the buffer is as long as any section of the bones.
     BufferTooShort = 5, "the buffer to write into is too short";
     /// Writing joints only.
@@ -49,7 +49,7 @@ refusals! {
     /// A bones pointer from 1 to 15.
     BonesPointer = 13, "the pointer to the bones is from 1 to 15, where no bones can be";
     /// Lookup only.
-    ChainTooLong = 14, "the tag's chain has more entries than there are bones: it runs in a circle, or entries are stored twice";
+    ChainTooLong = 14, "the tag's chain has more entries than the stored bone count: it runs in a circle, or the count or a link is wrong";
     /// The check only.
     Chains = 21, "the tag chains differ from those that follow from the bones: the game would not find each bone by its tag";
     /// The check only.

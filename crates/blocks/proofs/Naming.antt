@@ -1,4 +1,4 @@
--- The laws of names: the loop of `size_from`, and the ways out of `name_at` (document 01, "Finding bytes"). Assumes nothing.
+-- The laws of names: the loop of `size_from`, and the ways out of `name_at` (docs/FORMAT.md, "Finding bytes"). Assumes nothing.
 use mathlib.Core.Path.{_≡_, refl, sym, _∙_}
 use mathlib.Core.List.{List}
 use Prim.Native.Nat.{ℕ, suc, _+_, _-_, _≤_, _<_}

@@ -1,5 +1,5 @@
 -- A cursor's reader meets its contract, whatever it reads: a walk of the MIR that `Cursor::u8` to `Cursor::vec4` have in common, by hand
--- (document 01, "Finding bytes"). The parameters are the type R of what is read, the number k of its bytes, the function f of the slice
+-- (docs/FORMAT.md, "Finding bytes"). The parameters are the type R of what is read, the number k of its bytes, the function f of the slice
 -- and the position that gives it, and the covered function that computes f. The borrow is opened, `take` says where the read leaves the
 -- position and the mark, both are stored, the borrow is closed, and the covered function is called on the slice and the old position.
 -- Assumes nothing.

@@ -1,4 +1,4 @@
--- The laws of places (document 01, "Finding bytes"). In order: where an address leads; the place of some bytes; what `part` and
+-- The laws of places (docs/FORMAT.md, "Finding bytes"). In order: where an address leads; the place of some bytes; what `part` and
 -- `cursor` are of it; what a caller learns of an answer of `locate`. Assumes nothing.
 use mathlib.Core.Path.{_≡_, refl, sym, ap, _∙_}
 use mathlib.Core.Bool.{Bool, true, false}

@@ -1,5 +1,5 @@
--- The work of a cursor's reads, over a slice, a position and a mark (document 01, "Finding bytes"): a byte, words that stand all or none,
--- and where a read leaves the position and the mark. Assumes nothing.
+-- The work of a cursor's reads, over a slice, a position and a mark (docs/FORMAT.md, "Finding bytes"): a byte, words that stand all or
+-- none, and where a read leaves the position and the mark. Assumes nothing.
 use mathlib.Core.Path.{_≡_, sym, ap, _∙_}
 use mathlib.Core.Bool.{Bool, true, false, not, _||_, or-true, or-false}
 use mathlib.Core.List.{List}

@@ -1,4 +1,4 @@
--- A cursor: what each of its reads gives, and what it leaves (document 01, "Finding bytes": "A cursor read past the end yields zero and
+-- A cursor: what each of its reads gives, and what it leaves (docs/FORMAT.md, "Finding bytes": "A cursor read past the end yields zero and
 -- marks the overrun"). Definitions only.
 use Prim.Native.Nat.{ℕ, _+_, _-_, _^_, min}
 use mathlib.Core.Bool.{Bool, true, false, not, _||_}

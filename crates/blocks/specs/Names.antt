@@ -1,4 +1,4 @@
--- Our places and answers as the definitions have them (document 01, "Finding bytes"). Definitions only.
+-- Our places and answers as the definitions have them (docs/FORMAT.md, "Finding bytes"). Definitions only.
 use Rattle.format.specs.Result.{Res, refused, done}
 use Rattle.format.specs.Refusal.{number}
 use Rattle.format.specs.Section as Section
@@ -9,7 +9,7 @@ use Rattle.blocks.specs.declared.names.Named.the-variants.{At, Refused}
 abbrev pub meantPlace : Place → Section.Place
 meantPlace p = record { address = p .address; size = p .size }
 
--- the place of a name, or document 01's number
+-- the place of a name, or the refusal's number
 abbrev pub meantName : Named → Res Section.Place
 meantName (At p) = done (meantPlace p)
 meantName (Refused r) = refused (number r)

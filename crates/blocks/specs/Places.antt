@@ -1,5 +1,5 @@
 -- What `locate` answers, and what it must answer: the place of some bytes, of which `part` gives the bytes and `cursor` is the
--- case of none (document 01, "Finding bytes"). Definitions only.
+-- case of none (docs/FORMAT.md, "Finding bytes"). Definitions only.
 use mathlib.Core.Path.{_≡_}
 use Prim.Native.Nat.{ℕ, _+_}
 use mathlib.Core.List.{List}
@@ -25,13 +25,13 @@ standing s va n = do
   u ← need 11 (leb (p .offset + n) (length (p .half)))
   done p
 
--- the place that an answer names, or document 01's number
+-- the place that an answer names, or the refusal's number
 abbrev pub spotOf : Section → Located → Res Spot
 spotOf s (System o) = done (spotIn s.system o)
 spotOf s (Graphics o) = done (spotIn s.graphics o)
 spotOf s (Refused r) = refused (number r)
 
--- the n bytes of the place that an answer names, or document 01's number
+-- the n bytes of the place that an answer names, or the refusal's number
 abbrev pub bytesOf : Section → ℕ → Located → Res (List ℕ)
 bytesOf s n (System o) = done (take n (drop o s.system))
 bytesOf s n (Graphics o) = done (take n (drop o s.graphics))

@@ -1,4 +1,4 @@
--- What the pool's functions promise, over the pool that the table holds: whatever pool that is, no code has it (document 01,
+-- What the pool's functions promise, over the pool that the table holds: whatever pool that is, no code has it (docs/FORMAT.md,
 -- "Finding bytes"). Nothing here knows of hashing. Definitions only.
 use Prim.Native.Nat.{ℕ}
 use mathlib.Core.Path.{_≡_}
@@ -29,13 +29,13 @@ abbrev pub meantFound : ℕ → Found → Option Pooled
 meantFound a nothing-found = none
 meantFound a (found-at k f c) = some (poolRow a (meantKind k) f c)
 
--- where what was read is stored, or document 01's number
+-- where what was read is stored, or the refusal's number
 abbrev pub meantCached : Cached → Res (Option Rows)
 meantCached nothing-cached = done none
 meantCached (cached-at f c) = done (some (rows f c))
 meantCached (Refused r) = refused (number r)
 
--- the pool q with the row stored, or document 01's number
+-- the pool q with the row stored, or the refusal's number
 abbrev pub meantStored : Stored → List Pooled → Res (List Pooled)
 meantStored Done q = done q
 meantStored Full q = refused 1

@@ -1,4 +1,4 @@
-// A cursor: a reader that holds its section and its position (document 01, "Finding bytes"; `Cursor` of `src/blocks/mod.rs`). A read
+// A cursor: a reader that holds its bytes and its position (docs/FORMAT.md, "Finding bytes"; `Cursor` of `src/blocks/mod.rs`). A read
 // that runs past the end yields zero and marks the overrun, and `check` then refuses.
 ghost use mathlib.Core.Path.{_≡_};
 ghost use Rattle.format.specs.Field.{fieldAt};
@@ -8,11 +8,11 @@ use format::Words3;
 use format::Words4;
 
 pub struct Cursor<'a> {
-    // the whole section
+    // the bytes of one half of a section
     data: &'a [u8],
     // the offset of the next byte
     pub pos: usize,
-    // the address of the section's first byte
+    // the address of the first of them
     base: u64,
     // whether a read ran past the end
     overrun: bool,

@@ -1,4 +1,4 @@
-// What an address can be read as (document 01, "Finding bytes": "Both matrix lists are one kind, parents and children another").
+// What an address can be read as (docs/FORMAT.md, "Finding bytes": "Both matrix lists are one kind, parents and children another").
 ghost use mathlib.Core.Path.{_≡_};
 ghost use Rattle.format.specs.Tables.{kindNumber, sameKind};
 ghost use Rattle.blocks.specs.Kinds.{meantKind, kindCode, kindFrom};

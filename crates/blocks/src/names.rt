@@ -1,4 +1,4 @@
-// Names in a section (document 01, "Finding bytes"; `string` of `src/blocks/mod.rs`, whose bytes stay as they are).
+// Names in a section (docs/FORMAT.md, "Finding bytes"; `string` of `src/blocks/mod.rs`, whose bytes stay as they are).
 ghost use mathlib.Core.Path.{_≡_};
 ghost use Prim.Native.Nat.{_≤_};
 ghost use lib.ListN.{length, drop};

@@ -1,4 +1,4 @@
-// Where an address leads (document 01, "Finding bytes"; `section`, `slice` and `cursor` of `src/blocks/mod.rs`). A section is
+// Where an address leads (docs/FORMAT.md, "Finding bytes"; `section`, `slice` and `cursor` of `src/blocks/mod.rs`). A section is
 // lent as its two halves, the system bytes and the graphics bytes.
 ghost use mathlib.Core.Path.{_≡_};
 ghost use Rattle.format.specs.Section.{part, orNone};

@@ -1,4 +1,4 @@
-// The pool: a lent table that maps an address to what was read there (document 01, "Finding bytes"; `cached_as` and `cache` of
+// The pool: a lent table that maps an address to what was read there (docs/FORMAT.md, "Finding bytes"; `cached_as` and `cache` of
 // `src/blocks/mod.rs`), searched by the address's hash. A row is four words: the address, the kind's code, and the first and the
 // count of what is stored (of a name, its address and its size). Code 0 marks a free row, so that any address has its row. A
 // table of n words has n / 4 rows; the words behind the last row are not used.

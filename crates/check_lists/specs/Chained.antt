@@ -1,4 +1,4 @@
--- The entries that a lent table holds, and chains compared where both stand (document 01, "Lookup and check"). Definitions only.
+-- The entries that a lent table holds, and chains compared where both stand (docs/FORMAT.md, "Lookup and check"). Definitions only.
 use Prim.Native.Nat.{ℕ}
 use mathlib.Core.Bool.{Bool, false}
 use mathlib.Core.Option.{Option, none, some}

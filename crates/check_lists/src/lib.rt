@@ -1,4 +1,4 @@
-// Comparing what was read with what was derived (document 01, "Lookup and check"): lists word by word, and chains along the links
+// Comparing what was read with what was derived (docs/FORMAT.md, "Lookup and check"): lists word by word, and chains along the links
 // of two tables of entries. Each comparison stops at the first difference.
 ghost use mathlib.Core.Path.{_≡_};
 ghost use Prim.Native.Nat.{min, _-_};

@@ -1,4 +1,4 @@
--- The tests of the verdict, stage by stage (document 01, "Lookup and check"), and the stages' answer as a result. Definitions only.
+-- The tests of the verdict, stage by stage (docs/FORMAT.md, "Lookup and check"), and the stages' answer as a result. Definitions only.
 use Prim.Native.Nat.{ℕ, _*_}
 use mathlib.Core.Option.{Option}
 use mathlib.Core.List.{List}

@@ -1,4 +1,4 @@
-// The stages of the check behind reading (document 01, "Lookup and check"): whether the working tables have room, and then chains,
+// The stages of the check behind reading (docs/FORMAT.md, "Lookup and check"): whether the working tables have room, and then chains,
 // indices and matrices. Each stage derives from the bones read into working tables, compares with what was read, and leaves its
 // working tables zero. Counts are of words, buckets or bones; what is absent counts 0.
 ghost use mathlib.Core.Path.{_≡_};
@@ -36,7 +36,7 @@ pub enum Agreement {
 
 // ---- room
 
-// Whether working tables of so many words have the rows that document 01 sizes for n bones: an entry is three words and a matrix
+// Whether working tables of so many words have the rows that n bones need: an entry is three words and a matrix
 // sixteen, and for each of n + 1 there are eight child entries and four pending rows of two words.
 pub fn room(
     n: usize,

@@ -33,7 +33,7 @@ countsOf (R.Read s) =
 
 -- ---- answers
 
--- our answer as the format has it: the number of bones read, none for root 0, or document 01's number
+-- our answer as the format has it: the number of bones read, none for root 0, or the refusal's number
 abbrev pub checkedOf : Checked → Res (Option ℕ)
 checkedOf Nothing = done none
 checkedOf (Accepted n) = done (some n)

@@ -1,4 +1,4 @@
-// The answer of the check, and the steps to it behind the reading (document 01, "Lookup and check"): the room, chains, indices,
+// The answer of the check, and the steps to it behind the reading (docs/FORMAT.md, "Lookup and check"): the room, chains, indices,
 // matrices, each behind the answer so far, and the clearing where it is no acceptance.
 ghost use mathlib.Core.Path.{_≡_};
 ghost use lib.ListN.{length};

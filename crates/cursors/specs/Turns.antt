@@ -63,7 +63,7 @@ module _ (s : RefT (List ℕ)) (pos base n : ℕ) where
 
 -- ---- as numbers
 
--- 0, or document 01's number
+-- 0, or the refusal's number
 abbrev pub statusOf : CursorCheck → ℕ
 statusOf Within = 0
 statusOf (Refused x) = number x

@@ -51,7 +51,7 @@ pub fn in_turn(s: &[u8], pos: usize, base: u64, n: usize) -> Turns
 // How many numbers the turns come to.
 pub const NUMBERS: usize = 15;
 
-// The status that C and Rust are told: 0, or document 01's number.
+// The status that C and Rust are told: 0, or the refusal's number.
 fn status(c: CursorCheck) -> u64
     ensures { λ r. ⌜ r ≡ statusOf c ⌝ }
 {

@@ -102,7 +102,7 @@ module _ (n bones : ℕ) (b₀ e₀ : List ℕ) {q : TableRoom}
 
 -- ---- the working tables
 
--- tables of 01's sizes, and a table of bones of t words, have room
+-- tables of these sizes, and a table of bones of t words, have room
 module _ (n b e i l p c q : ℕ) where
   pub enough-tags : (t : ℕ) → boneWidth * n ≤ t → Enough n b e i l p c q → tagsHold n t b e ≡ true
   unfolding tagsHold

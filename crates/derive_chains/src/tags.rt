@@ -1,4 +1,4 @@
-// `build_bone_tags`: the chains of tags, as rows of two tables (document 01, "Deriving").
+// `build_bone_tags`: the chains of tags, as rows of two tables (docs/FORMAT.md, "Deriving").
 ghost use mathlib.Core.Path.{_≡_};
 ghost use mathlib.Core.List.{flatMap};
 ghost use Prim.Native.Nat.{_+_, _*_, _%_, _≤_, _<_};

@@ -161,7 +161,7 @@ module _ (n : ℕ) (t ps cs pending : List ℕ) {q : TableRoom}
 
 -- ---- the working tables
 
--- tables of 01's sizes, and a table of bones of t words, have room
+-- tables of these sizes, and a table of bones of t words, have room
 module _ (n b e i l p c q : ℕ) where
   pub enough-indices : (t : ℕ) → boneWidth * n ≤ t → Enough n b e i l p c q → indicesHold n t p c q ≡ true
   unfolding indicesHold

@@ -1,4 +1,4 @@
-// `build_indices`: the parents list and the child list (document 01, "Deriving"), in time that grows with the number of bones
+// `build_indices`: the parents list and the child list (docs/FORMAT.md, "Deriving"), in time that grows with the number of bones
 // alone.
 ghost use mathlib.Core.Path.{_≡_};
 ghost use Prim.Native.Nat.{_+_, _*_, _≤_, _<_};

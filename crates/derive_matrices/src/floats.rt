@@ -1,4 +1,4 @@
-// The floats that three and four words stand for (document 01, "Float work").
+// The floats that three and four words stand for (docs/FORMAT.md, "Float work").
 ghost use mathlib.Core.Path.{_≡_};
 ghost use Rattle.math.specs.Word.{floatOf};
 ghost use Rattle.math.specs.Vector.{vec3, vec4};

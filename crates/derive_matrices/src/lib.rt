@@ -1,4 +1,4 @@
-// The matrices that follow from the bones (document 01, "Deriving"). The caller lends every table; no call needs other memory.
+// The matrices that follow from the bones (docs/FORMAT.md, "Deriving"). The caller lends every table; no call needs other memory.
 mod floats; // words as floats
 mod walk; // the parent walk
 pub mod matrices; // `build_transformations`

@@ -1,4 +1,4 @@
-// The parent walk: what it takes from a bone's row, and where it ends, for one bone or for four side by side (document 01,
+// The parent walk: what it takes from a bone's row, and where it ends, for one bone or for four side by side (docs/FORMAT.md,
 // "Deriving": `build_transformations`).
 ghost use mathlib.Core.Path.{_≡_};
 ghost use mathlib.Core.Bool.{true};

@@ -1,4 +1,4 @@
--- The laws of fields in a slice, over any width of k bytes (document 01, "Marta's note on acceptance": "shown for any width").
+-- The laws of fields in a slice, over any width of k bytes.
 -- In order: a field by its bytes and by two halves, which the code cites; a field that stands and one that does not; the four laws
 -- of a codec (`load-store`, `store-load`, `load-range`, `store-inj`) and `store-other`; the code's test. Lists of bytes are in
 -- `Bytes`, the three widths of the format in `Widths`.

@@ -1,4 +1,4 @@
--- The laws of `Laws` at the three widths of the format, 16, 32 and 64 bits (document 01, "Marta's note on acceptance").
+-- The laws of `Laws` at the three widths of the format, 16, 32 and 64 bits.
 -- Assumes nothing.
 use mathlib.Core.Path.{_≡_}
 use mathlib.Core.Logic.{_⊎_}

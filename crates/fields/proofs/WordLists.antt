@@ -1,4 +1,4 @@
--- Runs of words and of their bytes (document 01: "All stored numbers are little-endian"), over the width of k bytes. In order:
+-- Runs of words and of their bytes (docs/FORMAT.md: "All stored numbers are little-endian"), over the width of k bytes. In order:
 -- the words
 -- that bytes hold; the bytes of words; a store of words by its bytes; from one to the other and back. Assumes nothing.
 use mathlib.Core.Path.{_≡_, refl, sym, ap, _∙_}

@@ -1,4 +1,4 @@
--- What a store answers, by whether its field stands in the slice (document 01, "Finding bytes"). Definitions only.
+-- What a store answers, by whether its field stands in the slice (docs/FORMAT.md, "Finding bytes"). Definitions only.
 use mathlib.Core.Bool.{Bool, true, false}
 use Rattle.fields.specs.declared.Placed.{Placed}
 use Rattle.fields.specs.declared.Placed.the-variants.{Stored, Outside}

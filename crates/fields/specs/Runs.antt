@@ -1,4 +1,4 @@
--- Runs of words in lent slices (document 01: "All stored numbers are little-endian"): n words of k bytes each, and what storing a run
+-- Runs of words in lent slices (docs/FORMAT.md: "All stored numbers are little-endian"): n words of k bytes each, and what storing a run
 -- leaves. A run that does not lie wholly in both slices changes nothing. Definitions only.
 use Prim.Native.Nat.{ℕ, _*_}
 use mathlib.Core.Bool.{Bool, _&&_}

@@ -1,4 +1,4 @@
-// Little-endian fields of 16, 32 and 64 bits in a lent slice (document 01, "Finding bytes"), read as the Rust's `Cursor` reads them.
+// Little-endian fields of 16, 32 and 64 bits in a lent slice (docs/FORMAT.md, "Finding bytes"), read as the Rust's `Cursor` reads them.
 // The bounds are tested here, once for each call; the private functions at the end ask for them.
 ghost use mathlib.Core.Path.{_≡_};
 ghost use Prim.Native.Nat.{_+_, _≤_};

@@ -1,4 +1,4 @@
--- A name that the writer lays is found where it lies: up to its zero, with its length and its bytes (document 01, "Records").
+-- A name that the writer lays is found where it lies: up to its zero, with its length and its bytes (docs/FORMAT.md, "Records").
 -- Assumes nothing.
 use mathlib.Core.Path.{_≡_, refl, ap, _∙_}
 use Prim.Native.Nat.{ℕ, _+_, _<_}

@@ -1,4 +1,4 @@
--- The skeleton check (document 01, "Lookup and check"). Definitions only.
+-- The skeleton check (docs/FORMAT.md, "Lookup and check"). Definitions only.
 use Prim.Native.Nat.{ℕ, zero, suc}
 use mathlib.Core.Bool.{Bool, true, false, _&&_}
 use mathlib.Core.Option.{Option, none, some}

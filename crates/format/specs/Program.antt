@@ -1,4 +1,4 @@
--- The program: what it prints for its standard input (document 01, "Joints and names"). Definitions only.
+-- The program: what it prints for its standard input (docs/FORMAT.md, "Joints and names"). Definitions only.
 use Prim.Native.Nat.{ℕ, zero, suc, _+_, _*_, _/_, _%_}
 use mathlib.Core.Bool.{cond}
 use mathlib.Core.Option.{Option, none, some}

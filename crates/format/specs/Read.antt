@@ -1,4 +1,4 @@
--- `Skeleton::read` in its order: buckets with chains, bones with names, inverse, local, parents, children (document 01, "Finding bytes"
+-- `Skeleton::read` in its order: buckets with chains, bones with names, inverse, local, parents, children (docs/FORMAT.md, "Finding bytes"
 -- and "Reading and writing a skeleton"). Definitions only.
 use Prim.Native.Nat.{ℕ, zero, suc, _+_, _-_, _*_}
 use mathlib.Core.Bool.{Bool, true, false}

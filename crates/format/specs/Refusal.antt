@@ -1,4 +1,4 @@
--- The numbers that document 01 gives the refusals ("Who can cause a refusal"). Definitions only.
+-- The numbers of the refusals (docs/FORMAT.md, "Who can cause a refusal"). Definitions only.
 use Prim.Native.Nat.{ℕ}
 use Rattle.format.specs.declared.Refusal.{Refusal}
 use Rattle.format.specs.declared.Refusal.the-variants.{TableTooShort, TooManyBones, TooManyChildren, BadName, BufferTooShort, TooManyLimits}

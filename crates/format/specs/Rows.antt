@@ -1,4 +1,4 @@
--- How lent tables hold rows: words one behind the other, zeros behind the last row (document 01: "result tables are zero past their
+-- How lent tables hold rows: words one behind the other, zeros behind the last row (docs/FORMAT.md: "result tables are zero past their
 -- rows"). A bone's row has no malformed state: each field has the width that its record gives it. Definitions only.
 use Prim.Native.Nat.{ℕ, zero, suc, _+_, _-_, _*_, _/_, _%_, _^_}
 use mathlib.Core.Option.{Option, none, some}

@@ -1,4 +1,4 @@
--- The name search (document 01, "Joints and names"). Definitions only.
+-- The name search (docs/FORMAT.md, "Joints and names"). Definitions only.
 use Prim.Native.Nat.{ℕ, suc}
 use mathlib.Core.Bool.{Bool, false, cond}
 use mathlib.Core.Option.{Option, none, some}

@@ -1,4 +1,5 @@
--- A section is its system and its graphics bytes; an address leads into one of the two halves (document 01, "Finding bytes"). Definitions only.
+-- A section is its system and its graphics bytes; an address leads into one of the two halves (docs/FORMAT.md, "Finding bytes").
+-- Definitions only.
 use Prim.Native.Nat.{ℕ, zero, suc, _+_, _-_, _/_, _%_}
 use mathlib.Core.Bool.{Bool, true, false}
 use mathlib.Core.List.{List, [], _∷_}

@@ -1,4 +1,4 @@
--- What reading stores: the lent tables with the rows in them, and the pool (document 01, "Finding bytes"). The pool serves any number of
+-- What reading stores: the lent tables with the rows in them, and the pool (docs/FORMAT.md, "Finding bytes"). The pool serves any number of
 -- readings: nothing here knows how many have used it. Definitions only.
 use Prim.Native.Nat.{ℕ}
 use mathlib.Core.Bool.{Bool, cond}

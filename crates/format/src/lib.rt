@@ -154,7 +154,7 @@ pub struct Place {
     pub size: u64,
 }
 
-// Why a call refuses. The comment gives document 01's number, who causes it, and when.
+// Why a call refuses. The comment gives its number, who causes it, and when (docs/FORMAT.md, "Who can cause a refusal").
 pub enum Refusal {
     // 1, the caller: a lent table is too short.
     TableTooShort,
@@ -164,7 +164,7 @@ pub enum Refusal {
     TooManyChildren,
     // 4, whoever made the bones: a name over 255 bytes, holding a zero byte or not lying in the lent name bytes, in writing only.
     BadName,
-    // 5, the caller: the output buffer is shorter than the section or record to write.
+    // 5, the caller: the output buffer is shorter than the section to write.
     BufferTooShort,
     // 6, whoever made the limits: more than 65,535 in either list.
     TooManyLimits,
@@ -190,7 +190,7 @@ pub enum Refusal {
     Local,
 }
 
-// The number that document 01 gives the refusal.
+// The number of the refusal, in every list of them.
 pub fn code(r: Refusal) -> u32
     ensures answer { λ n. ⌜ n ≡ number r ⌝ }
 {

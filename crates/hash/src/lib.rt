@@ -1,4 +1,4 @@
-// The hash of names (document 01, "Joints and names"; `src/hash.rs`): Jenkins one-at-a-time, over the bytes as they are given.
+// The hash of names (docs/FORMAT.md, "Joints and names"; `src/hash.rs`): Jenkins one-at-a-time, over the bytes as they are given.
 ghost use mathlib.Core.Path.{_≡_};
 ghost use Rattle.format.specs.Hash.{rageJoaat};
 

@@ -1,4 +1,4 @@
--- A written section reads back (document 01, "Joints and names"). In order: bytes in the system half; fields of a laid record;
+-- A written section reads back (docs/FORMAT.md, "Joints and names"). In order: bytes in the system half; fields of a laid record;
 -- one list
 -- of either kind; the theorem. Assumes nothing.
 use mathlib.Core.Path.{_≡_, refl, sym, ap, _∙_}

@@ -1,4 +1,4 @@
--- The two kinds of limits as the definitions name them, by the laws of either kind (document 01, "Joints and names"). In order:
+-- The two kinds of limits as the definitions name them, by the laws of either kind (docs/FORMAT.md, "Joints and names"). In order:
 -- rows and records; lists of rows. Assumes nothing.
 use mathlib.Core.Path.{_≡_, refl, ap, _∙_}
 use mathlib.Core.List.{List, [], _∷_, map, flatMap}

@@ -1,4 +1,4 @@
--- The laws of the two codecs of a limit (document 01, "Joints and names"). In order: a record read and written is as it was; a
+-- The laws of the two codecs of a limit (docs/FORMAT.md, "Joints and names"). In order: a record read and written is as it was; a
 -- limit written and read has its named fields; a limit put into a row and taken out is the same. Assumes nothing.
 use mathlib.Core.Path.{_≡_, refl, sym, _∙_}
 use mathlib.Core.Logic.{inr}

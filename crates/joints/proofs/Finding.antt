@@ -1,4 +1,4 @@
--- Finding the record and one list of limits (document 01, "Joints and names"). In order: the fields of a record; the ways out of
+-- Finding the record and one list of limits (docs/FORMAT.md, "Joints and names"). In order: the fields of a record; the ways out of
 -- `find_record`; `limits` by its pointer and count; the ways out of a stage. Assumes nothing.
 use mathlib.Core.Path.{_≡_, refl, sym, _∙_}
 use mathlib.Core.Bool.{true, false}

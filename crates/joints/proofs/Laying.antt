@@ -1,4 +1,4 @@
--- The written section by its parts (document 01, "Joints and names"). In order: the record as words; its size and the section's;
+-- The written section by its parts (docs/FORMAT.md, "Joints and names"). In order: the record as words; its size and the section's;
 -- the
 -- stores that lay it; the ways out of `write`. Assumes nothing.
 use mathlib.Core.Path.{_≡_, refl, sym, ap, _∙_}

@@ -1,4 +1,4 @@
--- Both lists of limits, as rows of two tables (document 01, "Joints and names"). In order: rows of a table read as limits again;
+-- Both lists of limits, as rows of two tables (docs/FORMAT.md, "Joints and names"). In order: rows of a table read as limits again;
 -- what
 -- an answer of a stage tells; the ways out of `read_lists` and of `read`. Assumes nothing.
 use mathlib.Core.Path.{_≡_, refl, sym, ap, _∙_}

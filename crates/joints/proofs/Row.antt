@@ -1,4 +1,4 @@
--- One limit: its record read into a row, and its row written as a record (document 01, "Joints and names"), for either kind by
+-- One limit: its record read into a row, and its row written as a record (docs/FORMAT.md, "Joints and names"), for either kind by
 -- the
 -- slots of least and greatest. In order: runs of a list by its elements; a row read; a record written. Assumes nothing.
 use mathlib.Core.Path.{_≡_, refl, _∙_}

@@ -1,4 +1,4 @@
--- Rows one behind the other (document 01, "Joints and names"), for limits of either kind. In order: rows of a list; what they
+-- Rows one behind the other (docs/FORMAT.md, "Joints and names"), for limits of either kind. In order: rows of a list; what they
 -- make together; a table of rows and zeros. The loops are in `RowLoops`. Assumes nothing.
 use mathlib.Core.Path.{_≡_, refl, sym, ap, _∙_}
 use mathlib.Core.List.{List, [], _∷_, _++_, flatMap, append-nil, append-assoc}

@@ -1,4 +1,4 @@
--- The loops over the rows of a table (document 01, "Joints and names"), for limits of either kind: records read into rows, and
+-- The loops over the rows of a table (docs/FORMAT.md, "Joints and names"), for limits of either kind: records read into rows, and
 -- rows
 -- written as records. Assumes nothing.
 use mathlib.Core.Path.{_≡_, refl, sym, ap, _∙_}

@@ -1,4 +1,4 @@
--- A limit of either kind by its slots: least and greatest stand at two slots that differ from kind to kind (document 01, "Joints
+-- A limit of either kind by its slots: least and greatest stand at two slots that differ from kind to kind (docs/FORMAT.md, "Joints
 -- and names"). Definitions only.
 use Prim.Native.Nat.{ℕ, _+_, _*_, _≤_}
 use mathlib.Core.List.{List, _∷_, _++_, flatMap}

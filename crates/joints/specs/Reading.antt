@@ -1,4 +1,4 @@
--- What reading joints answers, and what it leaves in the two tables (document 01, "Joints and names"). In order: the record; one
+-- What reading joints answers, and what it leaves in the two tables (docs/FORMAT.md, "Joints and names"). In order: the record; one
 -- list; both lists; the answer. Definitions only.
 use Prim.Native.Nat.{ℕ, zero, suc, _*_, _/_}
 use mathlib.Core.Path.{_≡_}
@@ -39,7 +39,7 @@ recordOf b =
       «translation_count» = field 2 b 50;
     }
 
--- the fields found, or document 01's number
+-- the fields found, or the refusal's number
 abbrev pub meantRecord : Found → Res Record
 meantRecord (At h) = done h
 meantRecord (no-record r) = refused (number r)
@@ -55,7 +55,7 @@ recordsTaken room k n s = do
   u ← need 1 (leb n room)
   done (some (limitRows k n (words 4 (k * n) s)))
 
--- whether it is read, or document 01's number
+-- whether it is read, or the refusal's number
 abbrev pub meantStep : Step → Res (Unit {0})
 meantStep Done = done tt
 meantStep (stopped r) = refused (number r)
@@ -109,7 +109,7 @@ abbrev pub listIf : {A : Type 0} → Bool → List A → Option (List A)
 listIf true l = some l
 listIf false l = none
 
--- the joints of an answer and of the two tables behind it, none, or document 01's number
+-- the joints of an answer and of the two tables behind it, none, or the refusal's number
 abbrev pub meantJoints : JointsRead → List ℕ → List ℕ → Res (Option Joints.Joints)
 meantJoints Nothing rotation translation = done none
 meantJoints (Read j) rotation translation =

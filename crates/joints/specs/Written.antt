@@ -1,4 +1,4 @@
--- What our writer of joints answers, and what it leaves in the buffer (document 01, "Joints and names"). Definitions only.
+-- What our writer of joints answers, and what it leaves in the buffer (docs/FORMAT.md, "Joints and names"). Definitions only.
 use Prim.Native.Nat.{ℕ, _+_, _*_, _≤_}
 use mathlib.Core.List.{List, _++_, map}
 use lib.ListN.{length, drop}
@@ -28,7 +28,7 @@ tableWritten size rotation r translation t = do
   v1 ← need 1 (leb (translationWidth * t) (length translation))
   jointsWritten size (rotationsOf r rotation) (translationsOf t translation)
 
--- the number of bytes of an answer, or document 01's number
+-- the number of bytes of an answer, or the refusal's number
 abbrev pub meantWritten : JointsWritten → Res ℕ
 meantWritten (Done n) = done n
 meantWritten (Refused r) = refused (number r)

@@ -1,4 +1,4 @@
-// Joints and their limits (document 01, "Joints and names"; `Joints`, `JointRotationLimit` and `JointTranslationLimit` of
+// Joints and their limits (docs/FORMAT.md, "Joints and names"; `Joints`, `JointRotationLimit` and `JointTranslationLimit` of
 // `src/blocks/skeleton.rs`). A limit is a row of words in a lent table; a record is a run of words in a section.
 pub mod limits; // the fresh limit; a limit's row and record
 pub mod read; // a section's joints, as rows of two tables

@@ -1,4 +1,4 @@
-// Limits of joints (document 01, "Joints and names"). A record is 48 or 16 slots of 32 bits, and the named fields are some of
+// Limits of joints (docs/FORMAT.md, "Joints and names"). A record is 48 or 16 slots of 32 bits, and the named fields are some of
 // them: the id at slot 2, with the second 16-bit number of a rotation limit in its upper half, and three slots each of least and
 // greatest. A row of a table holds the named fields, words 0, 1 to 3 and 4 to 6, and behind them every slot of the record.
 ghost use mathlib.Core.Path.{_≡_};

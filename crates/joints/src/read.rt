@@ -1,4 +1,4 @@
-// Reading joints (document 01, "Joints and names"; `Joints::read` of `src/blocks/skeleton.rs`). Each kind of list is read once,
+// Reading joints (docs/FORMAT.md, "Joints and names"; `Joints::read` of `src/blocks/skeleton.rs`). Each kind of list is read once,
 // so that the pool never gives anything again and none is lent.
 ghost use mathlib.Core.Path.{_≡_};
 ghost use Prim.Native.Nat.{_+_, _*_, _/_, _≤_};

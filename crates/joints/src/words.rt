@@ -1,4 +1,4 @@
-// Runs of 32-bit words of a limit, from bytes into a lent table and back (document 01, "Joints and names"). The callers know that both
+// Runs of 32-bit words of a limit, from bytes into a lent table and back (docs/FORMAT.md, "Joints and names"). The callers know that both
 // stand.
 ghost use mathlib.Core.Path.{_≡_};
 ghost use Prim.Native.Nat.{_+_, _*_, _≤_};

@@ -1,4 +1,4 @@
-// Our writer of a joints section (document 01, "Joints and names"; `Block for Joints` of `src/blocks/skeleton.rs`): the record,
+// Our writer of a joints section (docs/FORMAT.md, "Joints and names"; `Block for Joints` of `src/blocks/skeleton.rs`): the record,
 // the rotation limits and the translation limits, one behind the other, from 50000000 hex.
 ghost use mathlib.Core.Path.{_≡_};
 ghost use Prim.Native.Nat.{_+_, _*_, _≤_, _<_};
@@ -89,8 +89,8 @@ fn lay_section(rotation: &[u32], r: usize, translation: &[u32], t: usize, out: &
 }
 
 // The section of the limits in the first r rows of one table and the first t rows of the other, at the front of `out`. The
-// refusals, in this order: 6 for more than 65,535 of either, 1 for a table with fewer rows than asked for (which document 01
-// leaves open), 5 for a buffer that is too short. A refusal changes nothing, and what lies behind the section stays as it was.
+// refusals, in this order: 6 for more than 65,535 of either, 1 for a table with fewer rows than asked for, 5 for a buffer that
+// is too short. A refusal changes nothing, and what lies behind the section stays as it was.
 pub fn write(
     rotation: &[u32],
     r: usize,

@@ -1,4 +1,4 @@
--- The ways out of `follow`, `lookup_in` and `lookup` (document 01, "Lookup and check"). Assumes nothing.
+-- The ways out of `follow`, `lookup_in` and `lookup` (docs/FORMAT.md, "Lookup and check"). Assumes nothing.
 use Prim.Native.Nat.{ℕ, zero, suc, _+_, _-_, _*_, _%_, _≤_, _<_}
 use native.Mathlib.Nat.{mod-lt}
 use native.Mathlib.Omega.{arith}

@@ -1,4 +1,4 @@
-// Lookup of a tag in the bytes of a section (document 01, "Lookup and check"): no table is lent, and nothing but the bytes that the
+// Lookup of a tag in the bytes of a section (docs/FORMAT.md, "Lookup and check"): no table is lent, and nothing but the bytes that the
 // walk comes to is read.
 ghost use mathlib.Core.Path.{_≡_};
 ghost use Rattle.format.specs.Lookup as Definitions;

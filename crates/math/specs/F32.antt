@@ -1,4 +1,4 @@
--- The operations of binary32 that the float work is made of: each rounds once, to nearest even (document 01, "Float work").
+-- The operations of binary32 that the float work is made of: each rounds once, to nearest even (docs/FORMAT.md, "Float work").
 -- They have signs of their own, a ring around the usual ones, and bind as Rust's operators do.
 -- Definitions only.
 use mathlib.Core.Bool.{Bool}

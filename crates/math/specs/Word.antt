@@ -1,4 +1,4 @@
--- A stored 32-bit word as a float, and back (document 01, "Float work").
+-- A stored 32-bit word as a float, and back (docs/FORMAT.md, "Float work").
 -- Definitions only.
 use Prim.Native.Nat.{ℕ}
 use lib.Ieee.{Float, nan, inf, fin, binary32, ofBits, toBits}

@@ -1,5 +1,5 @@
 // Float work of the rig exporter, `src/math.rs` in f32: each operation rounds once, in the Rust's written order
-// (document 01, "Float work"). Here are the types, and floats as the 32-bit words that records and tables hold.
+// (docs/FORMAT.md, "Float work"). Here are the types, and floats as the 32-bit words that records and tables hold.
 mod vector; // what a `Vec3` and a `Vec4` do
 mod matrix; // what a `Mat4` does, but for its inverse
 mod inverse; // the inverse of a `Mat4`

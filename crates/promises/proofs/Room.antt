@@ -1,5 +1,5 @@
 -- Reading and the room lent for it: tables that hold the rows which a section reads to give just those rows, smaller ones refusal 1;
--- the pool has one row for each distinct address (document 01, "Finding bytes"). Assumes nothing.
+-- the pool has one row for each distinct address (docs/FORMAT.md, "Finding bytes"). Assumes nothing.
 use mathlib.Core.Path.{_≡_}
 use mathlib.Core.Logic.{inl, inr}
 use Prim.Native.Nat.{ℕ}

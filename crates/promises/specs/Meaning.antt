@@ -39,7 +39,7 @@ pub record Holds (room : Room) (t : Tables) : Type 0 where
   pub children : length t.lists.children ≤ room .children
   pub pool : length t.pool ≤ room .pool
 
--- The tables that document 01 sizes for the check of a section: whatever it reads to, they hold its reading and its deriving.
+-- The tables lent for the check of a section, sized as docs/FORMAT.md says: whatever it reads to, they hold its reading and its deriving.
 pub record Sized (sec : Section) (root : ℕ) (room : Room) (droom : DeriveRoom) : Type 0 where
   pub read : (s : SkeletonRow) (t : Tables) → ReadsTo sec root s t → Holds room t
   pub derive : (s : SkeletonRow) (t : Tables) → ReadsTo sec root s t → T (derives droom (length (bonesRead (s .bones) t)))

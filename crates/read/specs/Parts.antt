@@ -1,5 +1,5 @@
 -- What reading each part of a skeleton promises, in one reading: its tables are zero before it, and hold the rows of the format's
--- tables after it (document 01, "Reading and writing a skeleton"). Of a refusal the number alone is said. Definitions only.
+-- tables after it (docs/FORMAT.md, "Reading and writing a skeleton"). Of a refusal the number alone is said. Definitions only.
 use Prim.Native.Nat.{ℕ, _≤_}
 use mathlib.Core.Path.{_≡_}
 use mathlib.Core.Option.{Option, none, some}

@@ -1,4 +1,4 @@
--- What reading a skeleton promises: its answer is the format's, and so are the tables that it leaves (document 01, "Reading and
+-- What reading a skeleton promises: its answer is the format's, and so are the tables that it leaves (docs/FORMAT.md, "Reading and
 -- writing a skeleton", "Who can cause a refusal"). Definitions only.
 use Prim.Native.Nat.{ℕ}
 use mathlib.Core.Path.{_≡_}

@@ -1,4 +1,4 @@
-// Reading a skeleton from a section into lent tables (document 01, "Reading and writing a skeleton"; `Skeleton::read`).
+// Reading a skeleton from a section into lent tables (docs/FORMAT.md, "Reading and writing a skeleton"; `Skeleton::read`).
 ghost use mathlib.Core.Path.{_≡_};
 ghost use Rattle.format.specs.Tables.{noRows};
 ghost use Rattle.format.specs.Read.{readSkeleton};

@@ -1,4 +1,4 @@
-// The parts of a skeleton, each read into its own tables (document 01, "Reading and writing a skeleton"): buckets with chains,
+// The parts of a skeleton, each read into its own tables (docs/FORMAT.md, "Reading and writing a skeleton"): buckets with chains,
 // bones with names, the two lists of matrices, parents and children. These are the steps of one reading: every table is zero
 // before it, and of a refusal nothing is said of the tables.
 ghost use Rattle.blocks.specs.Places.{section};

@@ -1,4 +1,4 @@
--- The ways out of `bone_from`, `new_bone` and `read_bone` (document 01, "Records"). Assumes nothing.
+-- The ways out of `bone_from`, `new_bone` and `read_bone` (docs/FORMAT.md, "Records"). Assumes nothing.
 use mathlib.Core.Path.{_≡_, refl, sym, ap, subst, _∙_}
 use mathlib.Core.Bool.{Bool, true, false}
 use mathlib.Core.Option.{some}

@@ -1,4 +1,4 @@
--- The ways out of `new_name` and `read_name` (document 01, "Finding bytes"). Assumes nothing.
+-- The ways out of `new_name` and `read_name` (docs/FORMAT.md, "Finding bytes"). Assumes nothing.
 use mathlib.Core.Path.{_≡_, refl, sym, ap, _∙_}
 use mathlib.Core.Option.{some}
 use mathlib.Core.List.{List}

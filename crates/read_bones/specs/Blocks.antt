@@ -51,7 +51,7 @@ pub record ReadsBones (sec : Section) (va n used : ℕ) (r : Stretch) (b₀ b p�
 
 -- ---- the block
 
--- the place that a legal address leads to, or document 01's number
+-- the place that a legal address leads to, or the refusal's number
 abbrev pub headerStep : Header → Spot → Res Spot
 headerStep Stands p = done p
 headerStep (header-refused x) p = refused (number x)

@@ -1,4 +1,4 @@
-// One bone of a section with its name (document 01, "Records"; `Bone::read`), stored as a row of the bones table and pooled.
+// One bone of a section with its name (docs/FORMAT.md, "Records"; `Bone::read`), stored as a row of the bones table and pooled.
 ghost use mathlib.Core.Path.{_≡_};
 ghost use Prim.Native.Nat.{_+_, _≤_};
 ghost use Rattle.format.specs.Field.{fieldAt};

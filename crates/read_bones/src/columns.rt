@@ -1,4 +1,4 @@
-// The kept words of the bones (document 01: "If bones and local matrices stand, each bone takes column 4 of its matrix, else
+// The kept words of the bones (docs/FORMAT.md: "If bones and local matrices stand, each bone takes column 4 of its matrix, else
 // zeros"; the end of `Skeleton::read`).
 ghost use mathlib.Core.Path.{_≡_};
 ghost use mathlib.Core.List.{[], _∷_};

@@ -1,4 +1,4 @@
-// The bones block of a skeleton (document 01, "Reading and writing a skeleton"; `SkeletonBonesBlock::read`). Two lent tables take
+// The bones block of a skeleton (docs/FORMAT.md, "Reading and writing a skeleton"; `SkeletonBonesBlock::read`). Two lent tables take
 // what is read: bones, 21 words a row, and the pool. A refusal leaves them as they happen to be: whoever lends them clears them.
 ghost use mathlib.Core.Path.{_≡_};
 ghost use Prim.Native.Nat.{_≤_};
@@ -33,7 +33,7 @@ pub enum Block {
 // Whether the block's header stands.
 enum Header {
     Stands,
-    // 10 where the address is in neither half, 11 where it lies past its half's end
+    // 10 where the address is in neither half, 11 where the header does not lie whole in its half
     Refused(Refusal),
 }
 

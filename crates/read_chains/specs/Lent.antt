@@ -1,5 +1,5 @@
 -- What the lent tables stand for: the entries, the buckets and the pool of the format's tables, whatever tables these are
--- (document 01, "Reading and writing a skeleton"). Definitions only.
+-- (docs/FORMAT.md, "Reading and writing a skeleton"). Definitions only.
 use Prim.Native.Nat.{ℕ, _/_, _<_}
 use mathlib.Core.Path.{_≡_}
 use mathlib.Core.Bool.{cond}

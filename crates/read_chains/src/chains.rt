@@ -1,4 +1,4 @@
-// Chains of tag entries (document 01, "Reading and writing a skeleton": "A chain that meets an entry already read ends there and
+// Chains of tag entries (docs/FORMAT.md, "Reading and writing a skeleton": "A chain that meets an entry already read ends there and
 // shares it"). A row of the entries table is three words: the tag, the position, and the link.
 ghost use mathlib.Core.Path.{_≡_};
 ghost use mathlib.Core.List.{[], _∷_};
@@ -24,7 +24,7 @@ use read_records::entry;
 use read_records::entry::Fields;
 
 // The most rows of an entries table that are used: the link to the row behind the last is a 32-bit word, too. No section has
-// more addresses than an eighth of these.
+// more than 536,870,912 addresses.
 pub const MOST_ENTRIES: usize = 4294967294;
 
 // Where an address leads from an entry or a bucket.

@@ -1,4 +1,4 @@
-// The bucket array of a skeleton with its chains (document 01, "Reading and writing a skeleton"; `Skeleton::read`, the hash
+// The bucket array of a skeleton with its chains (docs/FORMAT.md, "Reading and writing a skeleton"; `Skeleton::read`, the hash
 // buckets). Three lent tables take what is read: buckets, one word a row; entries, three words a row (tag, position, link); and
 // the pool. A link is 0, or one more than the row of an entry. A refusal leaves the tables as they happen to be: whoever lends
 // them clears them.

@@ -1,4 +1,4 @@
--- What was read, as the lent tables have it (document 01, "Lookup and check"). Definitions only.
+-- What was read, as the lent tables have it (docs/FORMAT.md, "Lookup and check"). Definitions only.
 use Prim.Native.Nat.{ℕ}
 use mathlib.Core.List.{List}
 use lib.ListN.{take}

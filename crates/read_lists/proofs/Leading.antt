@@ -1,4 +1,4 @@
--- Where the pool leads: what reading a list comes to by each way, and where a list lies that is to be copied (document 01,
+-- Where the pool leads: what reading a list comes to by each way, and where a list lies that is to be copied (docs/FORMAT.md,
 -- "Finding bytes"). In order: the two tables of a kind; the four ways; the list to be copied. Assumes nothing.
 use mathlib.Core.Path.{_≡_, refl, ap, _∙_}
 use mathlib.Core.Bool.{Bool, true, false}

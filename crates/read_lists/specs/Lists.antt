@@ -38,7 +38,7 @@ rowsIn localTable t = length t / 16
 rowsIn parentsTable t = length t
 rowsIn childrenTable t = length t
 
--- what an answer gives, where `used` words were used before: the list, and the words used after it; or document 01's number
+-- what an answer gives, where `used` words were used before: the list, and the words used after it; or the refusal's number
 abbrev pub meantListed : ℕ → Listed → Res (Option Rows × ℕ)
 meantListed used Absent = done (none, used)
 meantListed used (At f c u) = done (some (rows f c), u)

@@ -1,4 +1,4 @@
--- How a list comes into its table, by what the pool has at its address, and the row that it takes there (document 01, "Finding
+-- How a list comes into its table, by what the pool has at its address, and the row that it takes there (docs/FORMAT.md, "Finding
 -- bytes"). Definitions only.
 use Prim.Native.Nat.{ℕ}
 use mathlib.Core.Path.{_≡_}

@@ -1,4 +1,4 @@
--- What reading a list promises, over any tables of the format that the lent tables stand for (document 01, "Finding bytes").
+-- What reading a list promises, over any tables of the format that the lent tables stand for (docs/FORMAT.md, "Finding bytes").
 -- Definitions only.
 use Prim.Native.Nat.{ℕ}
 use mathlib.Core.Path.{_≡_}

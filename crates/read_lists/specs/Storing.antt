@@ -1,4 +1,4 @@
--- What storing words as new rows promises: all or none (document 01, "Who can cause a refusal"). Definitions only.
+-- What storing words as new rows promises: all or none (docs/FORMAT.md, "Who can cause a refusal"). Definitions only.
 use Prim.Native.Nat.{ℕ, _+_, _*_, _≤_, _<_}
 use mathlib.Core.Path.{_≡_}
 use mathlib.Core.Bool.{Bool, true, false}

@@ -1,4 +1,4 @@
-// Plain arrays of a section, read into lent tables under the pool (document 01, "Finding bytes"; `read_struct_array`): the two
+// Plain arrays of a section, read into lent tables under the pool (docs/FORMAT.md, "Finding bytes"; `read_struct_array`): the two
 // lists of matrices, sixteen 32-bit words a row, and the two lists of 16-bit indices, one word a row.
 ghost use mathlib.Core.Path.{_≡_};
 ghost use Rattle.blocks.specs.Kinds.{meantTable};

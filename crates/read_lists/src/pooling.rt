@@ -1,4 +1,4 @@
-// What the pool says of a list that is to be read, and the row that the list takes there (document 01, "Finding bytes").
+// What the pool says of a list that is to be read, and the row that the list takes there (docs/FORMAT.md, "Finding bytes").
 ghost use Rattle.blocks.specs.Kinds.{meantTable};
 ghost use Rattle.read_lists.specs.Pooling.{Leads, Pools};
 use crate::Listed;

@@ -1,5 +1,5 @@
 // Words stored as new rows of a lent table, all or none: read from a section's bytes, or copied from the other table of the kind
-// (document 01, "Finding bytes", "Who can cause a refusal": 1 for an array after its bytes).
+// (docs/FORMAT.md, "Finding bytes", "Who can cause a refusal": 1 for an array after its bytes).
 ghost use mathlib.Core.Path.{_≡_};
 ghost use Prim.Native.Nat.{_+_, _*_, _/_, _≤_};
 ghost use lib.Dec.{ltb};

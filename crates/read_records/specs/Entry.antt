@@ -1,4 +1,4 @@
--- The fields of a tag entry as the code has them, by its bytes and by its address (document 01, "Records"). Definitions only.
+-- The fields of a tag entry as the code has them, by its bytes and by its address (docs/FORMAT.md, "Records"). Definitions only.
 use Prim.Native.Nat.{ℕ}
 use mathlib.Core.List.{List}
 use denote.Ref.{RefT}

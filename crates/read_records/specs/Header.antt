@@ -1,4 +1,4 @@
--- The header of a skeleton as the code has it, and the format's header that it stands for (document 01, "Records").
+-- The header of a skeleton as the code has it, and the format's header that it stands for (docs/FORMAT.md, "Records").
 -- Definitions only.
 use Prim.Native.Nat.{ℕ}
 use mathlib.Core.List.{List}

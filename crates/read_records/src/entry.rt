@@ -1,4 +1,4 @@
-// A tag entry: the fields of its 16 bytes (document 01, "Records").
+// A tag entry: the fields of its 16 bytes (docs/FORMAT.md, "Records").
 ghost use mathlib.Core.Path.{_≡_};
 ghost use Rattle.blocks.specs.Places.{section};
 ghost use Rattle.read_records.specs.Entry.{entryAt, entryRead, fieldsOf, meantFields};

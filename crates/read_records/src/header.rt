@@ -1,4 +1,4 @@
-// The header of a skeleton: the fields that reading takes from its record (document 01, "Records").
+// The header of a skeleton: the fields that reading takes from its record (docs/FORMAT.md, "Records").
 ghost use mathlib.Core.Path.{_≡_};
 ghost use Rattle.format.specs.Records.{header};
 ghost use Rattle.blocks.specs.Places.{section};

@@ -1,4 +1,4 @@
-// Joints replayed (document 01, "Joints and names").
+// Joints replayed (docs/FORMAT.md, "Joints and names").
 use crate::tables;
 use joints::read::JointsRead;
 use joints::write::JointsWritten;

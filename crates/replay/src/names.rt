@@ -1,4 +1,4 @@
-// Hashes replayed (document 01, "Joints and names").
+// Hashes replayed (docs/FORMAT.md, "Joints and names").
 
 // the parts
 const NAME: u16 = 2;

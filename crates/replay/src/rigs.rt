@@ -1,4 +1,4 @@
-// Deriving replayed (document 01, "Deriving").
+// Deriving replayed (docs/FORMAT.md, "Deriving").
 use crate::tables;
 use derive_chains::tags::Tagged;
 use derive_children::indices::Indexed;

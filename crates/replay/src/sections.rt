@@ -1,4 +1,4 @@
-// Reading a skeleton and looking up a tag replayed (document 01, "Reading and writing a skeleton", "Lookup and check").
+// Reading a skeleton and looking up a tag replayed (docs/FORMAT.md, "Reading and writing a skeleton", "Lookup and check").
 use crate::tables;
 use lookup::Looked;
 use read::SkeletonRead;

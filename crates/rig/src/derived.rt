@@ -1,5 +1,5 @@
-// What C and Rust call to derive a skeleton's tables (document 01, "Deriving"). Each export is thin, and states its outcome by the
-// definitions that the function it calls states it by; a status is 0, or document 01's number of the refusal.
+// What C and Rust call to derive a skeleton's tables (docs/FORMAT.md, "Deriving"). Each export is thin, and states its outcome by the
+// definitions that the function it calls states it by; a status is 0, or the number of the refusal.
 ghost use mathlib.Core.Path.{_≡_};
 ghost use mathlib.Core.List.{flatMap};
 ghost use lib.ListN.{length};

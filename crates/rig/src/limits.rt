@@ -1,4 +1,4 @@
-// What C and Rust call to read and write joints (document 01, "Joints and names"). A status is 0, 100 for none, or document 01's number
+// What C and Rust call to read and write joints (docs/FORMAT.md, "Joints and names"). A status is 0, 100 for none, or the refusal's number
 // of the refusal.
 ghost use mathlib.Core.Path.{_≡_};
 ghost use lib.ListN.{length};

@@ -1,5 +1,5 @@
-// What C and Rust call to hash a name, and to search a section for a bone by its name's hash (document 01, "Joints and names"). A status
-// is 0, 100 for none, or document 01's number of the refusal.
+// What C and Rust call to hash a name, and to search a section for a bone by its name's hash (docs/FORMAT.md, "Joints and names"). A status
+// is 0, 100 for none, or the number of the refusal.
 ghost use mathlib.Core.Path.{_≡_};
 ghost use Rattle.format.specs.Hash.{rageJoaat};
 ghost use Rattle.blocks.specs.Places.{section};

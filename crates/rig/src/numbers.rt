@@ -1,4 +1,4 @@
-// What C and Rust call to read and store little-endian fields in a lent slice (document 01, "Finding bytes").
+// What C and Rust call to read and store little-endian fields in a lent slice (docs/FORMAT.md, "Finding bytes").
 ghost use mathlib.Core.Path.{_≡_};
 ghost use Rattle.format.specs.Field.{stands, fieldAt, putAt};
 ghost use Rattle.fields.specs.Placed.{placed};

@@ -1,4 +1,4 @@
-// The methods of a cursor in turn (document 01, "Finding bytes"): what the run against the Rust calls.
+// The methods of a cursor in turn (docs/FORMAT.md, "Finding bytes"): what the run against the Rust calls.
 ghost use mathlib.Core.Path.{_≡_};
 ghost use Rattle.cursors.specs.Turns.{inTurn, fit, told};
 

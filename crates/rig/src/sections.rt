@@ -1,5 +1,5 @@
-// What C and Rust call to read and write a skeleton's section (document 01, "Reading and writing a skeleton"). A status is 0, 100 for
-// none, or document 01's number of the refusal.
+// What C and Rust call to read and write a skeleton's section (docs/FORMAT.md, "Reading and writing a skeleton"). A status is 0, 100 for
+// none, or the number of the refusal.
 ghost use lib.ListN.{length};
 ghost use Rattle.format.specs.Tables.{noRows};
 ghost use Rattle.format.specs.Read.{readSkeleton};

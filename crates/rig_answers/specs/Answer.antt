@@ -1,4 +1,4 @@
--- Answers as numbers, for C and Rust: a status, 0, 100 for none or document 01's number, and a count or a position. Definitions only.
+-- Answers as numbers, for C and Rust: a status, 0, 100 for none or the refusal's number, and a count or a position. Definitions only.
 use Prim.Native.Nat.{ℕ}
 use mathlib.Core.Bool.{Bool, true, false}
 use mathlib.Core.Option.{Option, none, some}

@@ -1,4 +1,4 @@
-// Answers as numbers, for C and Rust: a status, 0, 100 for none or document 01's number of the refusal, and what the call gives, fields,
+// Answers as numbers, for C and Rust: a status, 0, 100 for none or the number of the refusal, and what the call gives, fields,
 // a count or a position.
 ghost use mathlib.Core.Path.{_≡_};
 ghost use mathlib.Core.Option.{some};

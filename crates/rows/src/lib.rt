@@ -1,4 +1,4 @@
-// A bone's row in a lent table of 32-bit words (document 01, "Records"; the words of a row stand in `format`, Rows.antt).
+// A bone's row in a lent table of 32-bit words (docs/FORMAT.md, "Records"; the words of a row stand in `format`, Rows.antt).
 // Every table and position has an answer: words that the table lacks read as 0.
 use fields::runs;
 use format::BONE_WORDS;

@@ -1,4 +1,4 @@
--- The ways out of `has_key`, and the loop of `first_named` (document 01, "Joints and names"). Assumes nothing.
+-- The ways out of `has_key`, and the loop of `first_named` (docs/FORMAT.md, "Joints and names"). Assumes nothing.
 use Prim.Native.Nat.{ℕ, zero, suc, _+_, _*_, _^_, _≤_, _<_}
 use native.Mathlib.Numerals.{add-one}
 use native.Mathlib.Omega.{arith}

@@ -1,4 +1,4 @@
--- The ways out of `first_in` and `search`: reading's answer, and the bones that its table holds (document 01, "Joints and names").
+-- The ways out of `first_in` and `search`: reading's answer, and the bones that its table holds (docs/FORMAT.md, "Joints and names").
 -- Assumes nothing.
 use Prim.Native.Nat.{ℕ, _-_}
 use native.Mathlib.Omega.{arith}

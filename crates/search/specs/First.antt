@@ -1,4 +1,4 @@
--- What the search of a table answers, and the names it goes through (document 01, "Joints and names"). Definitions only.
+-- What the search of a table answers, and the names it goes through (docs/FORMAT.md, "Joints and names"). Definitions only.
 use Prim.Native.Nat.{ℕ}
 use mathlib.Core.Option.{Option, none, some}
 use mathlib.Core.List.{List, map}

@@ -1,4 +1,4 @@
--- What a search's answer says (document 01, "Joints and names"). Definitions only.
+-- What a search's answer says (docs/FORMAT.md, "Joints and names"). Definitions only.
 use Prim.Native.Nat.{ℕ}
 use mathlib.Core.Option.{Option, none, some}
 use mathlib.Core.List.{List}
@@ -14,7 +14,7 @@ use Rattle.read.specs.declared.SkeletonRead.the-variants as R
 use Rattle.search.specs.declared.Searched.{Searched}
 use Rattle.search.specs.declared.Searched.the-variants.{Found, Nothing, Refused}
 
--- the position found, none, or document 01's number
+-- the position found, none, or the refusal's number
 abbrev pub searchedOf : Searched → Res (Option ℕ)
 searchedOf (Found p) = done (some p)
 searchedOf Nothing = done none

@@ -1,4 +1,4 @@
-// The name search (document 01, "Joints and names"): a section is read, and its bones' names are hashed.
+// The name search (docs/FORMAT.md, "Joints and names"): a section is read, and its bones' names are hashed.
 ghost use mathlib.Core.Path.{_≡_};
 ghost use Rattle.format.specs.Tables.{noRows};
 ghost use Rattle.format.specs.Read.{readSkeleton};

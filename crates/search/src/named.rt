@@ -1,4 +1,4 @@
-// The first bone of a table whose name hashes to a key (document 01, "Joints and names").
+// The first bone of a table whose name hashes to a key (docs/FORMAT.md, "Joints and names").
 ghost use mathlib.Core.Path.{_≡_};
 ghost use Rattle.format.specs.Section.{nameBytes};
 ghost use Rattle.format.specs.Bone.{mapName};

@@ -1,4 +1,4 @@
-// The line that the program prints (document 01, "Joints and names"), laid from a buffer's end towards its start.
+// The line that the program prints (docs/FORMAT.md, "Joints and names"), laid from a buffer's end towards its start.
 ghost use mathlib.Core.Path.{_≡_};
 ghost use mathlib.Core.List.{_++_, _∷_, []};
 ghost use Prim.Native.Nat.{_+_, _≤_};

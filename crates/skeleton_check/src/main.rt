@@ -1,4 +1,4 @@
-// The program (document 01, "Joints and names"): checks the system section on standard input, its root at 50000000 hex and its graphics
+// The program (docs/FORMAT.md, "Joints and names"): checks the system section on standard input, its root at 50000000 hex and its graphics
 // section empty, and prints `ok` and the bone count, or `refused` and the number.
 mod line; // the line printed
 

@@ -1,4 +1,4 @@
--- The sizes of document 01 for the working tables, as a test and as numbers of words. Assumes nothing.
+-- The sizes of the working tables (docs/FORMAT.md, "Who can cause a refusal"), as a test and as numbers of words. Assumes nothing.
 use mathlib.Core.Path.{_≡_, refl}
 use mathlib.Core.Bool.{Bool, true, false}
 use Prim.Native.Nat.{ℕ, _+_, _*_, _/_, _≤_}

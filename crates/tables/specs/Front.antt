@@ -1,4 +1,4 @@
--- The front of a buffer that was written (document 01, "Who can cause a refusal"). Definitions only.
+-- The front of a buffer that was written (docs/FORMAT.md, "Who can cause a refusal"). Definitions only.
 use Prim.Native.Nat.{ℕ}
 use mathlib.Core.List.{List, []}
 use lib.ListN.{length, take}

@@ -1,4 +1,4 @@
--- What deriving calls answer and leave in their tables (document 01, "Who can cause a refusal"). Definitions only.
+-- What deriving calls answer and leave in their tables (docs/FORMAT.md, "Who can cause a refusal"). Definitions only.
 use Prim.Native.Nat.{ℕ}
 use mathlib.Core.Bool.{Bool}
 use mathlib.Core.List.{List}

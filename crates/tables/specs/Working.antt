@@ -1,4 +1,4 @@
--- The tables that deriving fills, as the writer and the check lend them (document 01: "The writer's and the check's derived tables are
+-- The tables that deriving fills, as the writer and the check lend them (docs/FORMAT.md: "The writer's and the check's derived tables are
 -- working tables"): their words, the rows that they have room for, and that they are zero. Definitions only.
 use Prim.Native.Nat.{ℕ, _/_}
 use mathlib.Core.Path.{_≡_}

@@ -1,4 +1,4 @@
-// Lent tables and buffers (document 01, "Who can cause a refusal"): whether tables have room, clearing them, and the written front of a
+// Lent tables and buffers (docs/FORMAT.md, "Who can cause a refusal"): whether tables have room, clearing them, and the written front of a
 // buffer.
 ghost use mathlib.Core.Path.{_≡_};
 ghost use mathlib.Core.List.{_++_};

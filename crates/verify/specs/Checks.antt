@@ -1,4 +1,4 @@
--- What the check promises: its answer is the format's, and so are the tables that it leaves (document 01, "Lookup and check", "Who can
+-- What the check promises: its answer is the format's, and so are the tables that it leaves (docs/FORMAT.md, "Lookup and check", "Who can
 -- cause a refusal"). Definitions only.
 use Prim.Native.Nat.{ℕ}
 use mathlib.Core.Path.{_≡_}

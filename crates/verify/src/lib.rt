@@ -1,4 +1,4 @@
-// The skeleton check (document 01, "Lookup and check"): a section is read, all that can be derived is derived from the bones read, and
+// The skeleton check (docs/FORMAT.md, "Lookup and check"): a section is read, all that can be derived is derived from the bones read, and
 // the two are compared word by word.
 ghost use Rattle.blocks.specs.Places.{section};
 ghost use Rattle.read.specs.Lent.{lent};

@@ -1,4 +1,4 @@
--- Deriving the working tables: the three calls have room exactly where document 01's sizes are met, and what they leave.
+-- Deriving the working tables: the three calls have room exactly where the sizes of docs/FORMAT.md are met, and what they leave.
 -- Assumes nothing.
 use mathlib.Core.Path.{_≡_, refl, sym, ap, _∙_}
 use mathlib.Core.Bool.{Bool, true, false}
@@ -40,7 +40,7 @@ use Rattle.write.specs.declared.working.Derived.the-variants.{Children, 
 
 -- ---- room, by numbers
 
--- document 01's sizes for n bones, by the tables' words
+-- the sizes for n bones, by the tables' words
 abbrev Enough : ℕ → Working → Type 0
 Enough n x =
     rooms.Enough n (length (x .buckets)) (length (x .entries)) (length (x .inverse)) (length (x .local)) (length (x .parents))

@@ -1,4 +1,4 @@
--- What the writer answers and leaves (document 01, "Who can cause a refusal": writing tests 2, 4, 1, 3, 5). Definitions only.
+-- What the writer answers and leaves (docs/FORMAT.md, "Who can cause a refusal": writing tests 2, 4, 1, 3, 5). Definitions only.
 use mathlib.Core.Path.{_≡_}
 use Prim.Native.Nat.{ℕ, _*_}
 use mathlib.Core.List.{List}

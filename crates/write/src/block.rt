@@ -1,4 +1,4 @@
-// The bones block: its count, then the bones' records of 80 bytes, each one array of words (document 01, "Records").
+// The bones block: its count, then the bones' records of 80 bytes, each one array of words (docs/FORMAT.md, "Records").
 ghost use mathlib.Core.Path.{_≡_};
 ghost use Prim.Native.Nat.{_+_, _*_, _≤_};
 ghost use lib.ListN.{length, take, drop};

@@ -1,4 +1,4 @@
-// The section writer (document 01, "Reading and writing a skeleton"): first the parts are placed, then they are filled.
+// The section writer (docs/FORMAT.md, "Reading and writing a skeleton"): first the parts are placed, then they are filled.
 mod words; // words, halves and bytes stored one behind the other
 mod starts; // where the parts of a section start
 mod skeleton; // the skeleton's record

@@ -1,4 +1,4 @@
-// The names of the bones, from the lent halves (document 01, "Reading and writing a skeleton": "names in bone order one behind
+// The names of the bones, from the lent halves (docs/FORMAT.md, "Reading and writing a skeleton": "names in bone order one behind
 // the other, each ended by a zero").
 ghost use mathlib.Core.Path.{_≡_};
 ghost use Prim.Native.Nat.{_+_, _*_, _≤_};

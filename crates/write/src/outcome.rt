@@ -1,4 +1,5 @@
-// The writer's tests in their order (document 01, "Who can cause a refusal": "Writing a skeleton tests 2, 4, 1, 3, 5").
+// The writer's tests in their order (docs/FORMAT.md, "Who can cause a refusal": "Writing a skeleton tests 2, 4, 1, 3, 5";
+// a table of bones with fewer rows than asked for is 1 right behind 2).
 ghost use mathlib.Core.Path.{_≡_};
 ghost use lib.ListN.{length};
 ghost use Rattle.format.specs.Rows.{bonesOf};

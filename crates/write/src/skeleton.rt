@@ -1,4 +1,4 @@
-// The skeleton's record, 112 bytes (document 01, "Records"), as one array of words.
+// The skeleton's record, 112 bytes (docs/FORMAT.md, "Records"), as one array of words.
 ghost use mathlib.Core.Path.{_≡_};
 ghost use Prim.Native.Nat.{_+_, _*_, _≤_, _<_, min};
 ghost use lib.ListN.{length};

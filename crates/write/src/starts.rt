@@ -1,4 +1,4 @@
-// Where the parts of a section start (document 01, "Reading and writing a skeleton": "each on a multiple of 16").
+// Where the parts of a section start (docs/FORMAT.md, "Reading and writing a skeleton": "each on a multiple of 16").
 ghost use mathlib.Core.Path.{_≡_};
 ghost use Prim.Native.Nat.{_+_, _≤_, _<_};
 ghost use Rattle.format.specs.Layout as Layout;

@@ -1,4 +1,4 @@
--- `check_stages::room` meets its contract: each test is one of document 01's sizes. Assumes nothing.
+-- `check_stages::room` meets its contract: each test is one of the sizes of docs/FORMAT.md. Assumes nothing.
 use borrow.Author.Needs.{needs}
 use mathlib.Core.Path.{sym}
 use native.Mathlib.Omega.{arith}

@@ -1,4 +1,4 @@
--- `fields::load16` meets its contract (document 01, "Finding bytes"): a field of two bytes is the first and 256 times the second.
+-- `fields::load16` meets its contract (docs/FORMAT.md, "Finding bytes"): a field of two bytes is the first and 256 times the second.
 -- Assumes nothing.
 use borrow.Author.Needs.{needs}
 use Prim.Native.Nat.{ℕ, _+_}

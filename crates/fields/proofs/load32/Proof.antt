@@ -1,4 +1,4 @@
--- `fields::load32` meets its contract (document 01, "Finding bytes"): two fields of 2 bytes, one behind the other, are one of 4.
+-- `fields::load32` meets its contract (docs/FORMAT.md, "Finding bytes"): two fields of 2 bytes, one behind the other, are one of 4.
 -- Assumes nothing.
 use borrow.Author.Needs.{needs}
 use native.Mathlib.Omega.{arith}

@@ -1,4 +1,4 @@
--- `fields::put16` meets its contract (document 01, "Finding bytes"): the laws of a tested store, at a width of 2 bytes.
+-- `fields::put16` meets its contract (docs/FORMAT.md, "Finding bytes"): the laws of a tested store, at a width of 2 bytes.
 -- Assumes nothing.
 use borrow.Author.Needs.{needs}
 use denote.Ref.{now}

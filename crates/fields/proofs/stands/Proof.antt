@@ -1,4 +1,4 @@
--- `fields::stands` meets its contract (document 01, "Finding bytes"): it compares with what is left behind `at`: no sum wraps.
+-- `fields::stands` meets its contract (docs/FORMAT.md, "Finding bytes"): it compares with what is left behind `at`: no sum wraps.
 -- Assumes nothing.
 use borrow.Author.Needs.{needs}
 use borrow.Author.Tests.{lt-leb}

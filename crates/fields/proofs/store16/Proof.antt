@@ -1,4 +1,4 @@
--- `fields::store16` meets its contract (document 01, "Finding bytes"): the remainder and the quotient by 256 are the two bytes.
+-- `fields::store16` meets its contract (docs/FORMAT.md, "Finding bytes"): the remainder and the quotient by 256 are the two bytes.
 -- Assumes nothing.
 use borrow.Author.Needs.{needs}
 use mathlib.Core.Path.{_≡_}

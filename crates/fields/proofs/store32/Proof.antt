@@ -1,4 +1,4 @@
--- `fields::store32` meets its contract (document 01, "Finding bytes"): two stores of 2 bytes, one behind the other, are one of 4.
+-- `fields::store32` meets its contract (docs/FORMAT.md, "Finding bytes"): two stores of 2 bytes, one behind the other, are one of 4.
 -- Assumes nothing.
 use borrow.Author.Needs.{needs}
 use denote.Ref.{now}

@@ -1,4 +1,4 @@
--- `hash::rage_joaat` meets its contract (document 01, "Joints and names"). The loop's invariant: the hash so far, gone on over
+-- `hash::rage_joaat` meets its contract (docs/FORMAT.md, "Joints and names"). The loop's invariant: the hash so far, gone on over
 -- the
 -- bytes that are left, is the hash of all. Assumes nothing.
 use Prim.Native.Nat.{ℕ, _+_, _-_, _*_, _/_, _%_, _^_, _≤_, _<_}

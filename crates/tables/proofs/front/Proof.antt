@@ -1,4 +1,4 @@
--- `tables::front` meets its contract (document 01, "Who can cause a refusal"). Assumes nothing.
+-- `tables::front` meets its contract (docs/FORMAT.md, "Who can cause a refusal"). Assumes nothing.
 use mathlib.Core.Path.{sym}
 use denote.Ref.{now}
 use borrow.Author.Needs.{needs}

@@ -1,4 +1,4 @@
--- `joints::write::write` meets its contract (document 01, "Joints and names"): each way out by the tests that lead to it.
+-- `joints::write::write` meets its contract (docs/FORMAT.md, "Joints and names"): each way out by the tests that lead to it.
 -- Assumes nothing.
 use borrow.Author.Needs.{needs}
 use native.Mathlib.Omega.{arith}
