@@ -1,4 +1,4 @@
-// What C and Rust call to check a skeleton's section (docs/FORMAT.md, "Lookup and check"). A status is 0, 100 for none, or docs/FORMAT.md's
+// What C and Rust call to check a skeleton's section (docs/FORMAT.md, "Lookup and check"). A status is 0, 100 for none, or the
 // number of the refusal.
 ghost use Rattle.blocks.specs.Places.{section};
 ghost use Rattle.read.specs.Lent.{lent};

@@ -1,5 +1,5 @@
-// What C and Rust call to read and write joints (docs/FORMAT.md, "Joints and names"). A status is 0, 100 for none, or the refusal's number
-// of the refusal.
+// What C and Rust call to read and write joints (docs/FORMAT.md, "Joints and names"). A status is 0, 100 for none, or the number of
+// the refusal.
 ghost use mathlib.Core.Path.{_≡_};
 ghost use lib.ListN.{length};
 ghost use Rattle.format.specs.Joints.{freshSlots};

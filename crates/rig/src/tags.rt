@@ -1,4 +1,4 @@
-// What C and Rust call to look up a tag in a section (docs/FORMAT.md, "Lookup and check"). A status is 0, 100 for none, or docs/FORMAT.md's
+// What C and Rust call to look up a tag in a section (docs/FORMAT.md, "Lookup and check"). A status is 0, 100 for none, or the
 // number of the refusal.
 ghost use Rattle.format.specs.Lookup as Definitions;
 ghost use Rattle.blocks.specs.Places.{section};
