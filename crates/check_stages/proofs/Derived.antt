@@ -1,76 +1,21 @@
--- The chains along the derived rows are the derived chains, each of at most as many entries as there are bones. Assumes nothing.
-use mathlib.Core.Path.{_≡_, refl, ap, _∙_}
-use mathlib.Core.Bool.{Bool, true, false, cond}
+-- The derived chains in tables that hold their rows. Assumes nothing.
+use mathlib.Core.Path.{_≡_, _∙_}
 use mathlib.Core.Option.{some}
-use mathlib.Core.List.{List, [], _∷_, map, flatMap}
-use Prim.Native.Nat.{ℕ, zero, suc, _-_, _%_, _≤_, _<_}
-use native.Mathlib.Nat.{zero-add, le-refl}
-use native.Mathlib.Omega.{arith}
-use borrow.Author.Tests.{eqb-true}
-use lib.ListN.{length, getD, take, replicate}
+use mathlib.Core.List.{List, flatMap}
+use Prim.Native.Nat.{ℕ, _-_}
+use lib.ListN.{length, take, replicate}
 use lib.Seq.{take-at}
-use lib.Dec.{eqb}
-use Rattle.format.specs.Chains.{bucketCount, entryCount, entryOf, keepIf, keep, falling, inBucket, chain, upFrom, chains}
-use Rattle.format.specs.Deriving.{EntryRow, entryRow, linkBelow, bucketRows, entryRows}
-use Rattle.format.specs.Check.{noEntry, chainAlong, chainsAlong}
+use Rattle.format.specs.Chains.{bucketCount, chains}
+use Rattle.format.specs.Check.{chainsAlong}
 use Rattle.format.specs.Rows.{entryWords, laid}
-use Rattle.derive_chains.proofs.Tagging.{getD-up-from, length-up-from}
+use Rattle.derive_chains.specs.ChainRows.{bucketRows, entryRows}
+use Rattle.derive_chains.proofs.ChainRows.{rows-chained, length-bucket-rows}
 use Rattle.check_lists.specs.Chained.{entriesIn}
 use Rattle.check_lists.proofs.Held.{chains-held}
-
--- there are no buckets, or an entry for each bone
-none-or-each : {A : Type 0} (n : ℕ) → (bucketCount n ≡ 0 → A) → (n ≤ entryCount n → A) → A
-unfolding bucketCount entryCount
-none-or-each zero f g = f refl
-none-or-each (suc zero) f g = f refl
-none-or-each (suc (suc n)) f g = g (le-refl (suc (suc n)))
 
 module _ (ts : List ℕ) where
   abbrev count : ℕ
   count = bucketCount (length ts)
-
-  abbrev rowFor : ℕ → EntryRow
-  rowFor p = entryRow (getD ts p 0) p (linkBelow ts count (getD ts p 0 % count) p)
-
-  row-at : (p : ℕ) → p < entryCount (length ts) → getD (entryRows ts) p noEntry ≡ rowFor p
-  unfolding entryRows
-  row-at p h = getD-up-from rowFor noEntry 0 (entryCount (length ts)) p h ∙ ap rowFor (zero-add p)
-
-  -- the chain of the positions below n, where at most m entries are followed
-  along-below :
-      (b n m : ℕ) → n ≤ entryCount (length ts) → n ≤ m
-      → chainAlong (entryRows ts) m (linkBelow ts count b n) ≡ some (keep (inBucket count b) (falling ts n))
-  unfolding linkBelow keep falling chainAlong
-  along-below b zero zero h k = refl
-  along-below b zero (suc m) h k = refl
-  along-below b (suc n) zero h k = absurd (omega arith)
-  along-below b (suc n) (suc m) h k =
-      by (eqb (getD ts n 0 % count) b) refl (along-below b n (suc m) (omega arith) (omega arith))
-      (along-below b n m (omega arith) (omega arith))
-    where
-      by :
-          (x : Bool) → eqb (getD ts n 0 % count) b ≡ x
-          → chainAlong (entryRows ts) (suc m) (linkBelow ts count b n) ≡ some (keep (inBucket count b) (falling ts n))
-          → chainAlong (entryRows ts) m (linkBelow ts count b n) ≡ some (keep (inBucket count b) (falling ts n))
-          → chainAlong (entryRows ts) (suc m) (cond x (suc n) (linkBelow ts count b n))
-          ≡ some (keepIf x (entryOf (getD ts n 0) n) (keep (inBucket count b) (falling ts n)))
-      by false q e f = e
-      by true q e f = rw (row-at n (omega arith), eqb-true (getD ts n 0 % count) b q, f)
-
-  alongs-below :
-      (bs : List ℕ) → length ts ≤ entryCount (length ts)
-      → chainsAlong (entryRows ts) (length ts) (map (λ b. linkBelow ts count b (length ts)) bs) ≡ some (map (chain ts count) bs)
-  unfolding chainsAlong chain
-  alongs-below [] h = refl
-  alongs-below (b ∷ bs) h = rw (along-below b (length ts) (length ts) h (le-refl (length ts)), alongs-below bs h)
-
-  rows-chained : chainsAlong (entryRows ts) (length ts) (bucketRows ts) ≡ some (chains ts)
-  unfolding bucketRows chains upFrom chainsAlong
-  rows-chained = none-or-each (length ts) (λ z. rw z) (alongs-below (upFrom 0 count))
-
-  length-bucket-rows : length (bucketRows ts) ≡ count
-  unfolding bucketRows
-  length-bucket-rows = length-up-from (λ b. linkBelow ts count b (length ts)) 0 count
 
   -- in tables that hold the rows
   pub chains-derived :
@@ -78,5 +23,5 @@ module _ (ts : List ℕ) where
       → {n c : ℕ} → n ≡ length ts → c ≡ count → chainsAlong (entriesIn rows) n (take c heads) ≡ some (chains ts)
   chains-derived {heads} {rows} lb le hb he {n} {c} en ec =
       let t : take count heads ≡ bucketRows ts =
-      rw hb (take-at (bucketRows ts) (replicate (lb - length (bucketRows ts)) 0) count length-bucket-rows) in
-      rw (en, ec, t) (chains-held (entryRows ts) le he (length ts) (bucketRows ts) ∙ rows-chained)
+      rw hb (take-at (bucketRows ts) (replicate (lb - length (bucketRows ts)) 0) count (length-bucket-rows ts)) in
+      rw (en, ec, t) (chains-held (entryRows ts) le he (length ts) (bucketRows ts) ∙ rows-chained ts)

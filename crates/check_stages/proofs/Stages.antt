@@ -12,7 +12,8 @@ use lib.Seq.{take-at}
 use lib.Dec.{leb}
 use Rattle.format.specs.Result.{Res, refused, done, _>>=_, need}
 use Rattle.format.specs.Chains.{bucketCount, Entry, chains}
-use Rattle.format.specs.Deriving.{tags, bucketRows, entryRows}
+use Rattle.format.specs.Deriving.{tags}
+use Rattle.derive_chains.specs.ChainRows.{bucketRows, entryRows}
 use Rattle.format.specs.Matrices.{inverses, locals, inverseOf, localOf}
 use Rattle.format.specs.Rows.{entryWords, laid, bonesOf}
 use Rattle.format.specs.Check.{sameList, sameEntry, sameWords, sameChains, chainsAlong}

@@ -1,3 +1,4 @@
 pub mod Counts
 pub mod Tagging
+pub mod ChainRows
 pub mod TagsOutcome

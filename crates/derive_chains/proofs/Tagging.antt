@@ -11,7 +11,8 @@ use lib.Seq.{sets, ext-getD, getD-set-same, getD-set-other}
 use lib.Dec.{eqb}
 use borrow.Author.Tests.{eq-eqb, ne-eqb, eqb-true, eqb-false}
 use Rattle.format.specs.Chains.{bucketCount, entryCount, upFrom}
-use Rattle.format.specs.Deriving.{EntryRow, entryRow, linkBelow, bucketRows, entryRows}
+use Rattle.format.specs.Deriving.{EntryRow, entryRow}
+use Rattle.derive_chains.specs.ChainRows.{linkBelow, bucketRows, entryRows}
 use Rattle.format.specs.Rows.{entryWords, laid}
 use Rattle.derive_chains.specs.Tagging.{meantEntry, EntryIs, bucketsBelow, entriesBelow, TagEntered, TagsRoom, Linked}
 use Rattle.derive_chains.specs.declared.tags.TagEntry.{TagEntry}

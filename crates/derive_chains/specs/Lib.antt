@@ -1,1 +1,2 @@
+pub mod ChainRows
 pub mod Tagging

@@ -9,7 +9,8 @@ use lib.Dec.{leb}
 use Rattle.format.specs.Result.{Res, refused, done}
 use Rattle.format.specs.Refusal.{number}
 use Rattle.format.specs.Chains.{bucketCount, entryCount, upFrom}
-use Rattle.format.specs.Deriving.{EntryRow, entryRow, linkBelow, bucketRows, entryRows}
+use Rattle.format.specs.Deriving.{EntryRow, entryRow}
+use Rattle.derive_chains.specs.ChainRows.{linkBelow, bucketRows, entryRows}
 use Rattle.format.specs.Rows.{boneWidth, entryWords, laid, cleared}
 use Rattle.tables.specs.Outcome.{derived}
 use Rattle.derive_chains.specs.declared.tags.Tagged.{Tagged}

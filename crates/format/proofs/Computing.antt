@@ -11,7 +11,7 @@ use Rattle.format.specs.Chains.{firstAbove, numHashBuckets, bucketCount,
 use Rattle.format.specs.Chains.{chains, greatestBelow}
 use Rattle.format.specs.Children.{positions, roots, layers, padded, kids, firstPending, pairAt, children}
 use Rattle.format.specs.Matrices.{climb, boneAt, walk, localOf, inverseOf, inverses, locals}
-use Rattle.format.specs.Deriving.{derives, linkBelow, bucketRows, entryRows}
+use Rattle.format.specs.Deriving.{derives}
 use Rattle.format.specs.Tables.{find, replace, putOver, asKind}
 use Rattle.format.specs.Records.{header}
 use Rattle.format.specs.Read.{alter, takeColumns, linkTo, readChain, headFrom, readHead, readBuckets, bucketsFrom}
@@ -30,5 +30,5 @@ use Rattle.format.specs.Rows.{boneWords, placeOf, boneOf, bonesOf, table
 use Rattle.format.specs.Program.{digitsOnto, printed}
 
 unfoldable pub everything : Unit {0}
-unfolding flatMap Ieee.add Ieee.sub Ieee.mul Ieee.div Ieee.neg Ieee.eq Ieee.ofBits Ieee.toBits wordOf addVec3 quatMul quatRotate fromQuatPos pickMat inverse valueOf bytes orZero whichList words wordBytes lay spot cursor part array untilZero nameAt nameBytes firstAbove numHashBuckets bucketCount entryCount keep falling chain upFrom chains greatestBelow positions roots layers padded kids firstPending pairAt children climb boneAt walk localOf inverseOf inverses locals derives linkBelow bucketRows entryRows find replace putOver asKind header alter takeColumns linkTo readChain headFrom readHead readBuckets bucketsFrom readBucketArray nameFrom readName boneFrom readBone readBones blockFrom readBlock readBonesAt storeList readNew givenAgain readOver readOverKind listFrom readList readNewSkeleton skeletonFrom readSkeleton pad16 pointer pointers chainBytes entryTotal entryBytes boneItems endedName boneBytes blockBytes allNames blockSize starts skeletonItems joined layout noZero goodNames written follow lookupIn lookup gather chainAlong chainsAlong sameList verdict read checkFrom check mix rageJoaat firstKey search jointsItems jointsLayout jointsWritten limitRows limits readJoints boneWords placeOf boneOf bonesOf tableWords digitsOnto printed
+unfolding flatMap Ieee.add Ieee.sub Ieee.mul Ieee.div Ieee.neg Ieee.eq Ieee.ofBits Ieee.toBits wordOf addVec3 quatMul quatRotate fromQuatPos pickMat inverse valueOf bytes orZero whichList words wordBytes lay spot cursor part array untilZero nameAt nameBytes firstAbove numHashBuckets bucketCount entryCount keep falling chain upFrom chains greatestBelow positions roots layers padded kids firstPending pairAt children climb boneAt walk localOf inverseOf inverses locals derives find replace putOver asKind header alter takeColumns linkTo readChain headFrom readHead readBuckets bucketsFrom readBucketArray nameFrom readName boneFrom readBone readBones blockFrom readBlock readBonesAt storeList readNew givenAgain readOver readOverKind listFrom readList readNewSkeleton skeletonFrom readSkeleton pad16 pointer pointers chainBytes entryTotal entryBytes boneItems endedName boneBytes blockBytes allNames blockSize starts skeletonItems joined layout noZero goodNames written follow lookupIn lookup gather chainAlong chainsAlong sameList verdict read checkFrom check mix rageJoaat firstKey search jointsItems jointsLayout jointsWritten limitRows limits readJoints boneWords placeOf boneOf bonesOf tableWords digitsOnto printed
 everything = tt

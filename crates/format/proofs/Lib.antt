@@ -5,5 +5,6 @@ pub mod Names
 pub mod NamesIgnored
 pub mod Same
 pub mod Computing
+pub mod CallRefusals
 pub mod Cases
 pub mod Controls

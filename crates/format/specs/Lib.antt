@@ -20,6 +20,7 @@ pub mod Search
 pub mod Rows
 pub mod Joints
 pub mod Program
+pub mod CallRefusals
 pub mod TrialCases
 pub mod ControlSection
 pub mod Controls

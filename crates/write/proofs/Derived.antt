@@ -11,7 +11,8 @@ use lib.ListN.{length, getD, take, replicate, List·getD-append}
 use lib.Seq.{take-at, getD-append-add}
 use lib.Dec.{leb, eqb}
 use Rattle.format.specs.Chains.{bucketCount, entryCount, Entry, entryOf, keepIf, keep, falling, inBucket, chain, upFrom, chains}
-use Rattle.format.specs.Deriving.{EntryRow, entryRow, linkBelow, bucketRows, entryRows}
+use Rattle.format.specs.Deriving.{EntryRow, entryRow}
+use Rattle.derive_chains.specs.ChainRows.{linkBelow, bucketRows, entryRows}
 use Rattle.format.specs.Rows.{entryWords, laid}
 use Rattle.derive_chains.proofs.Counts.{few-buckets, many-entries}
 use Rattle.derive_chains.proofs.Tagging.{getD-up-from, length-up-from}

@@ -12,7 +12,8 @@ use Rattle.format.specs.Result.{Res, refused, done, _>>=_, need}
 use Rattle.format.specs.Refusal.{number}
 use Rattle.format.specs.declared.Refusal.{Refusal}
 use Rattle.format.specs.Chains.{bucketCount, entryCount}
-use Rattle.format.specs.Deriving.{tags, parents, derives, bucketRows, entryRows}
+use Rattle.format.specs.Deriving.{tags, parents, derives}
+use Rattle.derive_chains.specs.ChainRows.{bucketRows, entryRows}
 use Rattle.format.specs.Matrices.{inverses, locals}
 use Rattle.format.specs.Rows.{entryWords, laid, bonesOf}
 use Rattle.tables.specs.Outcome.{derived, leaves}

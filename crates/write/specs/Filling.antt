@@ -11,7 +11,8 @@ use Rattle.format.specs.Bone.{Bone}
 use Rattle.format.specs.Chains.{bucketCount, entryCount}
 use Rattle.format.specs.Children as Children
 use Rattle.format.specs.Matrices.{inverses, locals}
-use Rattle.format.specs.Deriving.{tags, parents, indices, bucketRows, entryRows}
+use Rattle.format.specs.Deriving.{tags, parents, indices}
+use Rattle.derive_chains.specs.ChainRows.{bucketRows, entryRows}
 use Rattle.format.specs.Rows.{entryWords, laid, bonesOf}
 use Rattle.format.specs.Layout.{base, after, pad16, allNames, Starts, starts}
 use Rattle.format.specs.Write.{goodNames, named}

@@ -7,7 +7,8 @@ use Rattle.format.specs.Result.{Res, refused, done}
 use Rattle.format.specs.Refusal.{number}
 use Rattle.format.specs.Chains.{bucketCount, entryCount}
 use Rattle.format.specs.Matrices.{inverses, locals}
-use Rattle.format.specs.Deriving.{tags, parents, bucketRows, entryRows}
+use Rattle.format.specs.Deriving.{tags, parents}
+use Rattle.derive_chains.specs.ChainRows.{bucketRows, entryRows}
 use Rattle.format.specs.Rows.{entryWords, laid, bonesOf}
 use Rattle.tables.specs.Working.{Working, roomIn}
 use Rattle.write.specs.Filling.{kidsOf}

@@ -1,7 +1,8 @@
 -- `derive_chains::tags::build_bone_tags` meets its contract. Assumes nothing.
 use Prim.Native.Nat.{ℕ}
 use mathlib.Core.List.{List, flatMap}
-use Rattle.format.specs.Deriving.{tags, bucketRows, entryRows}
+use Rattle.format.specs.Deriving.{tags}
+use Rattle.derive_chains.specs.ChainRows.{bucketRows, entryRows}
 use Rattle.format.specs.Rows.{bonesOf, entryWords}
 use Rattle.derive_chains.proofs.TagsOutcome.{tags-go, tags-refused, tags-done}
 use borrow.Author.Needs.{needs}
