@@ -321,7 +321,9 @@ module _ (sec : Section) (tag : ℕ) where
   follow-only (suc left) (suc a) =
       only-then (part-only tt tt sec (suc a) 16) λ b. found (eqb (entryTag b) tag) (entryPosition b) (follow-only left (entryNext b))
     where
-      found : (b : Bool) (p : ℕ) {rest : Res (Option ℕ)} → RefusesOnly lookupRefusals rest → RefusesOnly lookupRefusals (unlessFound b p rest)
+      found :
+          (b : Bool) (p : ℕ) {rest : Res (Option ℕ)} → RefusesOnly lookupRefusals rest →
+          RefusesOnly lookupRefusals (unlessFound b p rest)
       found true p h = only-done _
       found false p h = h
 
@@ -354,7 +356,9 @@ writing-only lent room size bones free =
 limits-only : (sec : Section) (room k va n : ℕ) → RefusesOnly jointsReadRefusals (limits sec room k va n)
 unfolding limits
 limits-only sec room k zero n = only-done _
-limits-only sec room k (suc a) n = only-then (array-only tt tt sec (suc a) (4 * k * n)) λ b. only-then (only-need 1 (leb n room) tt) λ u. only-done _
+limits-only sec room k (suc a) n =
+    only-then (array-only tt tt sec (suc a) (4 * k * n)) λ b.
+    only-then (only-need 1 (leb n room) tt) λ u. only-done _
 
 joints-read-only : (sec : Section) (rroom troom root : ℕ) → RefusesOnly jointsReadRefusals (readJoints sec rroom troom root)
 unfolding readJoints

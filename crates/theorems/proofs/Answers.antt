@@ -6,7 +6,7 @@ use mathlib.Core.Option.{Option, some}
 use mathlib.Core.List.{List}
 use borrow.Author.Tests.{le-leb}
 use lib.ListN.{length, drop}
-use lib.Dec.{leb, leb→le}
+use lib.Dec.{T, leb, leb→le}
 use lib.Seq.{sets, sets-eq, length-sets, take-at}
 use Rattle.format.specs.Result.{Res, refused, done, _>>=_}
 use Rattle.format.specs.Field.{whichList}
@@ -30,13 +30,16 @@ use Rattle.write.specs.declared.Written.the-variants.{Done}
 
 -- ---- the check
 
--- the number in an acceptance is that of the bones read
-pub accepted-count :
+-- an acceptance is the verdict on what was read: the number of the bones read, for which the deriving's tables have room
+pub record AcceptedIs (sec : Section) (droom : DeriveRoom) (s : SkeletonRow) (u : Tables) (m : ℕ) : Type 0 where
+  pub count : length (bonesRead (s .bones) u) ≡ m
+  pub room : T (derives droom (length (bonesRead (s .bones) u)))
+
+pub accepted-is :
     (sec : Section) (room : Room) (droom : DeriveRoom) (root : ℕ) (s : SkeletonRow) (u : Tables) (m : ℕ) →
-    readSkeleton sec room root noRows ≡ done (some s, u) → check sec room droom root ≡ done (some m) →
-    length (bonesRead (s .bones) u) ≡ m
+    readSkeleton sec room root noRows ≡ done (some s, u) → check sec room droom root ≡ done (some m) → AcceptedIs sec droom s u m
 unfolding check read checkFrom verdict
-accepted-count sec room droom root s u m e a =
+accepted-is sec room droom root s u m e a =
     let r = readOf s u in
     let a₀ : checkFrom droom (some r) ≡ done (some m) =
     sym (ap (λ (g : Step (Option SkeletonRow)). (g >>= λ x. done (readFrom (x .0) (x .1))) >>= checkFrom droom) e) ∙ a in
@@ -49,7 +52,7 @@ accepted-count sec room droom root s u m e a =
     let k₆ = needed 25 (sameWords (r .local) (locals (r .bones))) (done (length (r .bones))) n (k₅ .1) in
     let p : length (r .bones) ≡ n = cc in
     let q : n ≡ m = cc in
-    p ∙ q
+    record { count = p ∙ q; room = k₁ .0 }
 
 -- ---- the writer
 

@@ -1,3 +1,7 @@
 pub mod Fitting
 pub mod Answers
+pub mod Chained
 pub mod Theorems
+pub mod Refusals
+pub mod Exports
+pub mod Printing

@@ -10,15 +10,16 @@ use lib.ListN.{length, length-map}
 use lib.Dec.{T}
 use Rattle.format.specs.Result.{done}
 use Rattle.format.specs.Section.{Section, Place, nameBytes}
+use Rattle.format.specs.Bone as B
 use Rattle.format.specs.Bone.{Bone, naming}
-use Rattle.format.specs.Deriving.{derives, tags}
+use Rattle.format.specs.Deriving.{DeriveRoom, derives, tags}
 use Rattle.format.specs.Tables.{SkeletonRow, Tables, noRows}
 use Rattle.format.specs.Read.{Step, readSkeleton}
 use Rattle.format.specs.Rows.{laid, tableWords, bonesOf}
 use Rattle.format.specs.Layout.{base}
 use Rattle.format.specs.Lookup.{lookup}
 use Rattle.format.specs.Write.{named}
-use Rattle.format.specs.Check.{bonesRead}
+use Rattle.format.specs.Check.{bonesRead, check}
 use Rattle.promises.specs.Meaning.{Holds, Sized, Sound, Right, Fits4, ReadsBack}
 use Rattle.format.specs.Tables.{partLength}
 use Rattle.promises.proofs.Check.{accepts-reads}
@@ -46,7 +47,7 @@ use Rattle.read_laws.specs.Bytes.{Bytes8, SectionBytes}
 use Rattle.theorems.specs.Typed.{Words32}
 use Rattle.theorems.specs.Theorems.{Accepting, SameBones, WrittenBack, Theorems}
 use Rattle.theorems.proofs.Fitting.{bones-fit, front-bytes}
-use Rattle.theorems.proofs.Answers.{accepted-count, written-is}
+use Rattle.theorems.proofs.Answers.{accepted-is, written-is}
 
 -- ---- the bones in the table
 
@@ -78,22 +79,29 @@ exact sec root t₀ t x₀ x r c l =
 
 -- ---- Found
 
+-- where the check accepts n bones and leaves the reading's tables
+pub found-at :
+    (sec : Section) (root : ℕ) (t₀ t : read.Lent) (droom : DeriveRoom) (n : ℕ) → SectionBytes sec →
+    check sec (readRoom t₀) droom root ≡ done (some n) → t ≡ readLeaves (readSkeleton sec (readRoom t₀) root noRows) t₀ →
+    2 ≤ n → (tag : ℕ) → tag ≤ 65535 → Right (tags (bonesOf n (t .bones))) tag (lookup sec root tag)
+found-at sec root t₀ t droom n bytes says left h tag small =
+    let w = accepts-reads sec (readRoom t₀) droom root n says in
+    let count = accepted-is sec (readRoom t₀) droom root (w .0) (w .1) n (w .2) says .count in
+    let bones = bones-in sec bytes root (w .0) (w .1) t₀ t (w .2) left in
+    let m : partLength (w .0 .bones) ≡ n =
+    sym (length-bones-of (partLength (w .0 .bones)) (t .bones)) ∙ ap length (sym bones) ∙ count in
+    let same : bonesRead (w .0 .bones) (w .1) ≡ bonesOf n (t .bones) = bones ∙ ap (λ (k : ℕ). bonesOf k (t .bones)) m in
+    subst (λ (y : List (Bone Place)). Right (tags y) tag (lookup sec root tag)) same
+    (theorems .found sec root (readRoom t₀) droom (record { count = n; says = says }) (w .0) (w .1)
+    (record { room = readRoom t₀; gives = w .2 }) (omega (arith, h, count)) tag small)
+
 found :
     (sec : Section) (root : ℕ) (t₀ t : read.Lent) (x₀ x : Working) (n : ℕ) → SectionBytes sec → Checks sec root (Accepted n) t₀ t x₀ x →
     2 ≤ n → (tag : ℕ) → tag ≤ 65535 → (r : Looked) → lookedOf r ≡ lookup sec root tag →
     Right (tags (bonesOf n (t .bones))) tag (lookedOf r)
 found sec root t₀ t x₀ x n bytes c h tag small r looked =
-    let says = sym (c .answer) in
-    let w = accepts-reads sec (readRoom t₀) (roomIn x₀) root n says in
-    let count = accepted-count sec (readRoom t₀) (roomIn x₀) root (w .0) (w .1) n (w .2) says in
-    let bones = bones-in sec bytes root (w .0) (w .1) t₀ t (w .2) (c .tables) in
-    let m : partLength (w .0 .bones) ≡ n =
-    sym (length-bones-of (partLength (w .0 .bones)) (t .bones)) ∙ ap length (sym bones) ∙ count in
-    let same : bonesRead (w .0 .bones) (w .1) ≡ bonesOf n (t .bones) = bones ∙ ap (λ (k : ℕ). bonesOf k (t .bones)) m in
     subst (Right (tags (bonesOf n (t .bones))) tag) (sym looked)
-    (subst (λ (y : List (Bone Place)). Right (tags y) tag (lookup sec root tag)) same
-    (theorems .found sec root (readRoom t₀) (roomIn x₀) (record { count = n; says = says }) (w .0) (w .1)
-    (record { room = readRoom t₀; gives = w .2 }) (omega (arith, h, count)) tag small))
+    (found-at sec root t₀ t (roomIn x₀) n bytes (sym (c .answer)) (c .tables) h tag small)
 
 -- ---- Back
 
@@ -111,7 +119,7 @@ module _
         ∙ length-named lent (bonesOf n a) ∙ length-bones-of n a
 
     -- a reading with tables that hold it
-    reading :
+    pub reading :
         (t₀ : read.Lent) → Holds (readRoom t₀) (b .tables) →
         readSkeleton sec (readRoom t₀) base noRows ≡ done (some (b .skeleton), b .tables)
     reading t₀ h = theorems .room sec base (b .skeleton) (b .tables) (b .reads) (readRoom t₀) .0 h
@@ -122,23 +130,31 @@ module _
         in-table : bonesRead (b .skeleton .bones) (b .tables) ≡ bonesOf (partLength (b .skeleton .bones)) (t .bones)
         in-table = bones-in sec bytes base (b .skeleton) (b .tables) t₀ t (reading t₀ h) l
 
-        counts : partLength (b .skeleton .bones) ≡ n
+        pub counts : partLength (b .skeleton .bones) ≡ n
         counts = sym (length-bones-of (partLength (b .skeleton .bones)) (t .bones)) ∙ ap length (sym in-table) ∙ read-count
 
-        same-bones : SameBones n lent a sec (t .bones)
+        pub same-bones : SameBones n lent a sec (t .bones)
         same-bones =
             ap (λ (k : ℕ). named sec (bonesOf k (t .bones))) (sym counts) ∙ ap (named sec) (sym in-table) ∙ b .same
 
-    written-back : WrittenBack lent a n free sec
+    -- the check with tables that hold it
+    pub check-accepts :
+        (t₀ : read.Lent) (x₀ : Working) → Sized sec base (readRoom t₀) (roomIn x₀) →
+        check sec (readRoom t₀) (roomIn x₀) base ≡ done (some n)
+    check-accepts t₀ x₀ l =
+        let h = l .read (b .skeleton) (b .tables) (b .reads) in
+        let d = l .derive (b .skeleton) (b .tables) (b .reads) in
+        let m = length-bones-of n a in
+        b .accepted (readRoom t₀) (roomIn x₀) h (subst (λ (k : ℕ). T (derives (roomIn x₀) k)) (read-count ∙ sym m) d)
+        ∙ ap (λ (k : ℕ). done (some k)) m
+
+    pub written-back : WrittenBack lent a n free sec
     written-back =
         record {
           accepted =
               λ t₀ t x₀ x r l c.
               let h = l .read (b .skeleton) (b .tables) (b .reads) in
-              let d = l .derive (b .skeleton) (b .tables) (b .reads) in
-              let m = length-bones-of n a in
-              let s = b .accepted (readRoom t₀) (roomIn x₀) h (subst (λ (k : ℕ). T (derives (roomIn x₀) k)) (read-count ∙ sym m) d) in
-              let i = accepted r n (c .answer ∙ s ∙ ap (λ (k : ℕ). done (some k)) m) in (
+              let i = accepted r n (c .answer ∙ check-accepts t₀ x₀ l) in (
                 i,
                 same-bones t₀ t h
                     (c .tables
@@ -158,16 +174,24 @@ module _
               };
         }
 
+-- what was written reads back
+pub reads-back :
+    (bones : List ℕ) (n : ℕ) (lent : Section) (free : B.Words4) (x : Working) (out out′ : List ℕ) (size : ℕ) →
+    Words32 bones → Fits4 free → Writes (outcome lent (roomIn x) (length out) n bones free) (Done size) out out′ →
+    (graphics : List ℕ) → ReadsBack lent (bonesOf n bones) free (section (frontOf size out′) graphics)
+reads-back bones n lent free x out out′ size w f c graphics =
+    let k = written-is lent (roomIn x) n bones free out out′ size c in
+    subst (λ (y : List ℕ). ReadsBack lent (bonesOf n bones) free (section y graphics)) (sym (k .here))
+    (theorems .back lent (roomIn x) (length out) (bonesOf n bones) free (k .bytes) graphics (bones-fit n bones w) f (k .is))
+
 back :
     (bones : List ℕ) (n : ℕ) (lent : Section) (free : Words4) (x : Working) (out out′ : List ℕ) (size : ℕ) →
     Words32 bones → Fits4 (meantWords4 free) → Bytes8 out′ →
     Writes (outcome lent (roomIn x) (length out) n bones (meantWords4 free)) (Done size) out out′ →
     (graphics : List ℕ) → Bytes8 graphics → WrittenBack lent bones n free (section (frontOf size out′) graphics)
 back bones n lent free x out out′ size w f o c graphics g =
-    let k = written-is lent (roomIn x) n bones (meantWords4 free) out out′ size c in
     written-back lent bones n free (section (frontOf size out′) graphics) (front-bytes size out′ o, g)
-    (subst (λ (y : List ℕ). ReadsBack lent (bonesOf n bones) (meantWords4 free) (section y graphics)) (sym (k .here))
-    (theorems .back lent (roomIn x) (length out) (bonesOf n bones) (meantWords4 free) (k .bytes) graphics (bones-fit n bones w) f (k .is)))
+    (reads-back bones n lent (meantWords4 free) x out out′ size w f c graphics)
 
 -- ---- demand 3
 

@@ -1,2 +1,6 @@
 pub mod Typed
+pub mod Chained
 pub mod Theorems
+pub mod Refusals
+pub mod Exports
+pub mod Printing
