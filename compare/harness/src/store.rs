@@ -1,11 +1,12 @@
-//! The stored sample: a fixed choice of cases with the published Rust's answers, which the program `replay` runs with no
-//! Rust at hand (vectors/README.md).
+//! The stored sample: a fixed choice of cases with the published Rust's answers, and some that are wrong on purpose, which the
+//! program `replay` runs with no Rust at hand (vectors/README.md).
 
 mod case;
 mod limits;
 mod names;
 mod rigs;
 mod sections;
+mod wrong;
 
 use case::{Operation, Stored};
 use std::fs;
@@ -37,7 +38,9 @@ pub fn check(file: &Path) -> Result<usize, String> {
 }
 
 fn sample() -> Result<Vec<Stored>, String> {
-    Ok([sections::cases()?, rigs::cases(), limits::cases()?, names::cases()].concat())
+    let good = [sections::cases()?, rigs::cases(), limits::cases()?, names::cases()].concat();
+    let wrong = wrong::cases(&good)?;
+    Ok([good, wrong].concat())
 }
 
 fn laid(cases: &[Stored]) -> Vec<u8> {

@@ -26,6 +26,9 @@ const PARENTS: u16 = 12;
 
 const CHILDREN: u16 = 13;
 
+// no case has it but one that is wrong on purpose: the pool is zero after every call
+const POOL: u16 = 14;
+
 // ---- the answer
 
 fn answer_agrees(r: SkeletonRead, want: &[u8], answer: u32) -> bool {
@@ -41,7 +44,7 @@ fn rows_agree(want: &[u8], bones: &[u32], buckets: &[u32], entries: &[u32], pool
         replay_sample::same32(bones, replay_sample::part(want, BONES)),
         replay_sample::same32(buckets, replay_sample::part(want, BUCKETS)),
         replay_sample::same32(entries, replay_sample::part(want, ENTRIES)),
-        replay_sample::same64(pool, &want[..0]),
+        replay_sample::same64(pool, replay_sample::part(want, POOL)),
     )
 }
 

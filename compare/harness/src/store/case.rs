@@ -67,6 +67,18 @@ pub struct Stored {
 }
 
 impl Stored {
+    /// The parts in front of the further ones: the runs, and the two numbers.
+    pub const OWN: usize = 2;
+
+    /// A further part, by its number in the file; where it would be the next, it is made.
+    pub fn part(&mut self, k: usize) -> &mut Vec<u8> {
+        let at = k - Self::OWN;
+        if at == self.parts.len() {
+            self.parts.push(Vec::new());
+        }
+        &mut self.parts[at]
+    }
+
     /// Number and the bytes that follow; then where each part begins and the last one ends; then the parts.
     pub fn bytes(&self) -> Vec<u8> {
         let runs: Vec<u32> = self.runs.iter().flat_map(|r| [r.operation as u32, r.tables, r.answer]).collect();
