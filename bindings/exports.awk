@@ -1,6 +1,7 @@
 # The exports in the .rt files given, as a C header (-v as=c) or a Rust module (-v as=rust) declares them, in the order of the files. A slice
 # is an address, then a length; a matrix or a vector is an array of floats. In Rust a returned bool is its byte, so that the caller can see
-# that it is 0 or 1. What is not understood is an error that names its place: no export is left out.
+# that it is 0 or 1. Behind them stands their number, RIG_ABI, from the one constant ABI of the files. What is not understood is an error
+# that names its place: no export is left out.
 BEGIN {
     split("u8 uint8_t u16 uint16_t u32 uint32_t u64 uint64_t usize size_t f32 float bool bool", pairs, " ")
     for (i = 1; i in pairs; i += 2) c[pairs[i]] = pairs[i + 1]
@@ -93,6 +94,12 @@ function print_rust(result,   i, line) {
 
 { sub(/\/\/.*/, "") }
 
+/const ABI[ :]/ {
+    if (abi != "" || $0 !~ /^const ABI: u32 = [0-9]+;$/) fail("not understood: " $0)
+    abi = $5 + 0
+    next
+}
+
 /no_mangle/ {
     if ($0 != "#[no_mangle]" || marked || open) fail("not understood: " $0)
     marked = 1
@@ -120,5 +127,12 @@ open { text = text $0 " " }
 
 END {
     if (!failed && (marked || open || export == "")) fail("the export has no end, or there is none")
-    if (!failed && as == "rust") print "}"
+    if (!failed && abi == "") fail("there is no constant ABI")
+    if (!failed && as == "rust") {
+        print "}"
+        print ""
+        print "/// The number of these exports: what `rig_abi` of a library that has them answers."
+        print "#[allow(dead_code)]"
+        print "pub const RIG_ABI: u32 = " abi ";"
+    } else if (!failed) print "#define RIG_ABI " abi
 }

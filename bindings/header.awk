@@ -1,6 +1,7 @@
 # The prototypes of a C header, as exports.awk prints them: a parameter on each line, and the size of an array as a number, also where an
-# enum of the header names it. Comments, lines for the preprocessor, and the functions that the header defines itself (from `static inline` to
-# a brace at the start of a line) are passed over.
+# enum of the header names it; behind them the number RIG_ABI. Comments, other lines for the preprocessor, and the functions that the header
+# defines itself (from `static inline` to a brace at the start of a line) are passed over.
+/^# *define +RIG_ABI / { abi = abi "#define RIG_ABI " $3 "\n" }
 hidden || /^#/ { hidden = /\\$/; next }
 /^static inline / { defined = 1 }
 defined { if (/^}/) defined = 0; next }
@@ -35,4 +36,5 @@ END {
     for (i = 1; i <= n; i++)
         if (statements[i] ~ /rig_[a-z0-9_]+\(/) prototype(statements[i])
         else constants(statements[i])
+    printf "%s", abi
 }

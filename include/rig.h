@@ -24,6 +24,15 @@
 extern "C" {
 #endif
 
+/* ---- the number of the exports ---- */
+
+/* It rises with each change of a declaration, of the layout of a row or of fields, or of what a status means. */
+#define RIG_ABI 1
+
+/* The number of the library that is linked. A caller compares the two once, before any other call, and makes none where they
+ * differ: `if (rig_abi() != RIG_ABI) abort();`. A library without this function is older than number 1 and does not link. */
+uint32_t rig_abi(void);
+
 /* ---- answers ---- */
 
 /* What a call with a status answers: RIG_OK, RIG_NONE, or the refusal, by which one knows whose fault it is. */

@@ -10,6 +10,7 @@ void odd_pointers(const char *path);
 void float_modes(const char *path);
 void empty_tables(const char *path);
 
+void number_of_exports(void);
 void bones_by_hand(void);
 void fields(void);
 void cursor(void);

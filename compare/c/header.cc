@@ -1,6 +1,7 @@
 // The header in C++: each of its macros, and the function that it defines itself. compare/c/run compiles it, and does not link it.
 #include "rig.h"
 
+static_assert(RIG_ABI >= 1, "the number of the exports");
 static_assert(RIG_SYSTEM_BASE == 0x50000000u && RIG_GRAPHICS_BASE == 0x60000000u && RIG_WRITTEN_ROOT == RIG_SYSTEM_BASE, "bases");
 static_assert(RIG_LOWER(0x12345678u) == 0x5678 && RIG_UPPER(0x12345678u) == 0x1234, "halves");
 static_assert(RIG_PAIR(-1, 0x1234) == 0x1234FFFFu && RIG_LOWER(-2) == 0xFFFE, "a pair");

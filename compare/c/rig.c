@@ -15,6 +15,7 @@ int main(int argc, char **argv)
         fprintf(stderr, "usage: %s HORSE HORSE_CUT\n", argv[0]);
         return 2;
     }
+    number_of_exports();
     fields();
     cursor();
     status_texts();

@@ -1,9 +1,14 @@
-/* Fields, a cursor, texts of statuses, bucket counts, hashes, matrices and joints. */
+/* The number of the exports, fields, a cursor, texts of statuses, bucket counts, hashes, matrices and joints. */
 #include "checks.h"
 #include "lent.h"
 #include "rig.h"
 
 #include <string.h>
+
+void number_of_exports(void)
+{
+    expect_number(rig_abi(), RIG_ABI, "rig_abi");
+}
 
 /* ---- fields: each offset of a slice, and one that would wrap ---- */
 

@@ -24,8 +24,8 @@
 //!
 //! Every call ends on any bytes, with a result or a [`Refusal`]. The library is lent its tables by this crate: as the section's
 //! stored counts tell, no more than its bytes can fill, and longer ones where a chain wants more. So a table or a buffer that is
-//! too short (1 and 5) is never a caller's concern. Should the linked library answer with a status outside its contract, the
-//! call panics.
+//! too short (1 and 5) is never a caller's concern. Should the linked library answer with a status outside its contract, or be
+//! of another number (`rig_abi`) than the exports that this crate declares, the call panics.
 //!
 //! No call holds or shares anything between calls: all of them may be made from any thread at the same time.
 

@@ -4,6 +4,7 @@
 #[rustfmt::skip]
 #[allow(dead_code)] // a crate need not call them all
 extern "C" {
+    pub fn rig_abi() -> u32;
     pub fn rig_check(
         sys: *const u8,
         sys_len: usize,
@@ -194,3 +195,7 @@ extern "C" {
         position: *mut u32,
     ) -> u32;
 }
+
+/// The number of these exports: what `rig_abi` of a library that has them answers.
+#[allow(dead_code)]
+pub const RIG_ABI: u32 = 1;
