@@ -357,7 +357,7 @@ uint32_t rig_write(const uint32_t *bones, size_t bones_len, size_t n, const uint
  * has it. Refuses 10, 11 for the record's 98 bytes, then for the whole bucket array; then of each entry 14 where as many as the
  * stored bone count were visited, 10, 11. Unless RIG_OK, `*position` is 0. */
 uint32_t rig_lookup(const uint8_t *sys, size_t sys_len, const uint8_t *gfx, size_t gfx_len, uint64_t root, uint16_t tag,
-                    uint32_t *position);
+                    size_t *position);
 
 /* Checks the skeleton at `root`. RIG_OK: it reads, and its chains, parents, children and matrices equal, word by word, those
  * derived from the bones read; `*count` is the number of bones, and the tables from `bones` to `children` are as rig_read leaves

@@ -60,7 +60,7 @@ struct desk lend_desk(struct section s, size_t n)
         .d = lend_derived(n),
         .fields = lend_sizes("fields", RIG_READ_FIELDS),
         .count = lend_sizes("count", 1),
-        .position = lend_words("position", 1),
+        .position = lend_sizes("position", 1),
     };
 }
 
@@ -82,12 +82,12 @@ uint32_t search_name(const struct desk *k, const char *name)
 {
     uint32_t key = rig_rage_joaat((const uint8_t *)name, strlen(name));
     soil();
-    return rig_search(SECTION(k->s), RIG_WRITTEN_ROOT, key, READING(k->r), k->count.at);
+    return rig_search(SECTION(k->s), RIG_WRITTEN_ROOT, key, READING(k->r), k->position.at);
 }
 
 uint32_t look_up(const struct desk *k, uint16_t tag)
 {
-    *k->position.at = UINT32_MAX;
+    *k->position.at = SIZE_MAX;
     return rig_lookup(SECTION(k->s), RIG_WRITTEN_ROOT, tag, k->position.at);
 }
 

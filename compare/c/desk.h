@@ -26,8 +26,7 @@ struct desk {
     struct section s;
     struct reading r;
     struct derived d;
-    struct sizes fields, count;
-    struct words position;
+    struct sizes fields, count, position;
     uint32_t free[4]; /* the free words to write */
 };
 

@@ -18,8 +18,8 @@ enum {
 /* and by a pointer alone */
 struct lone {
     size_t n; /* bones, of which the rows are lent */
-    size_t *fields, *count;
-    uint32_t *position, *joint_fields;
+    size_t *fields, *count, *position;
+    uint32_t *joint_fields;
 };
 
 #define LEND(i) s[i].at, s[i].len
@@ -58,7 +58,7 @@ CALL(lookup_gfx, rig_lookup(LEND(SYS), LEND(GFX), RIG_GRAPHICS_BASE, 839, o->pos
 CALL(check, rig_check(LEND(SYS), LEND(GFX), RIG_WRITTEN_ROOT, LEND_READING, LEND_DERIVED, o->count))
 CALL(check_none, rig_check(LEND(SYS), LEND(GFX), 0, LEND_READING, LEND_DERIVED, o->count))
 CALL(joaat, rig_rage_joaat(LEND(SYS)))
-CALL(search, rig_search(LEND(SYS), LEND(GFX), RIG_WRITTEN_ROOT, 0x84533F51, LEND_READING, o->count))
+CALL(search, rig_search(LEND(SYS), LEND(GFX), RIG_WRITTEN_ROOT, 0x84533F51, LEND_READING, o->position))
 CALL(joints_read, rig_joints_read(LEND(SYS), LEND(GFX), RIG_WRITTEN_ROOT, LEND(ROTATION), LEND(TRANSLATION), o->joint_fields))
 CALL(joints_write, rig_joints_write(LEND(ROTATION), 1, LEND(TRANSLATION), 1, LEND(OUT), o->count))
 CALL(no_joints_write, rig_joints_write(LEND(ROTATION), 0, LEND(TRANSLATION), 0, LEND(OUT), o->count))

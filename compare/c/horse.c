@@ -123,11 +123,11 @@ static void every_name_is_found(const struct desk *k, const struct reading *read
 {
     for (size_t p = 0; p < BONES; p++) {
         expect_number(search_name(k, horse[p].name), RIG_OK, "rig_search of %s", horse[p].name);
-        expect_number(*k->count.at, p, "the position of %s", horse[p].name);
+        expect_number(*k->position.at, p, "the position of %s", horse[p].name);
         expect_read(k, read, "rig_search of a name");
     }
     expect_number(search_name(k, "saddle"), RIG_NONE, "rig_search of saddle");
-    expect_number(*k->count.at, 0, "the position of saddle");
+    expect_number(*k->position.at, 0, "the position of saddle");
     expect_read(k, read, "rig_search of saddle");
 }
 

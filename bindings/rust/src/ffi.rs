@@ -218,7 +218,7 @@ pub(crate) fn check(section: &Section, tables: &mut ReadTables, derived: &mut De
     }
 }
 
-pub(crate) fn lookup(section: &Section, tag: u16, position: &mut u32) -> u32 {
+pub(crate) fn lookup(section: &Section, tag: u16, position: &mut usize) -> u32 {
     hold_number();
     let &Section { system, graphics, root } = section;
     // SAFETY: addresses and lengths of slices borrowed for this call, and a position borrowed by `&mut`.

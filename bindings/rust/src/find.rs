@@ -22,7 +22,7 @@ use crate::tables::lend;
 pub fn lookup(system: &[u8], graphics: &[u8], root: u64, tag: u16) -> Result<Option<usize>, Refusal> {
     let mut position = 0;
     let status = ffi::lookup(&Section { system, graphics, root }, tag, &mut position);
-    Ok(done(status)?.then_some(position as usize))
+    Ok(done(status)?.then_some(position))
 }
 
 /// The position of the first bone whose name has a key, [`rage_joaat`] of the name; none where no name has it. The section is read.

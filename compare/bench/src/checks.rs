@@ -39,7 +39,7 @@ pub fn check_once(library: &dyn Checks, system: &[u8], read: &mut ReadLent, deri
 }
 
 fn lookups(table: &Table, library: &dyn Checks, input: &str, system: &[u8], bones: &[Bone]) {
-    let map: HashMap<u16, u32> = bones.iter().enumerate().map(|(position, b)| (b.tag, position as u32)).collect();
+    let map: HashMap<u16, usize> = bones.iter().enumerate().map(|(position, b)| (b.tag, position)).collect();
     let mut tags: Vec<u16> = bones.iter().map(|b| b.tag).collect();
     Rng::new(SEED).shuffle(&mut tags);
     let section = Halves { system, graphics: &[] };
@@ -49,7 +49,7 @@ fn lookups(table: &Table, library: &dyn Checks, input: &str, system: &[u8], bone
         position
     };
     assert!(tags.iter().all(|&tag| ours(tag) == map[&tag]), "the positions of {input}");
-    let sum = |find: &dyn Fn(u16) -> u32| timed(|| tags.iter().fold(0u32, |sum, &tag| sum.wrapping_add(find(tag))));
+    let sum = |find: &dyn Fn(u16) -> usize| timed(|| tags.iter().fold(0usize, |sum, &tag| sum.wrapping_add(find(tag))));
     let row = Row { call: "lookup against a map", input, units: tags.len(), unit: "a call" };
     table.both(&row, || sum(&ours), || sum(&|tag| *map.get(&tag).expect("a tag of a bone")));
 }

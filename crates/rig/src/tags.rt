@@ -7,7 +7,13 @@ ghost use Rattle.rig_answers.specs.Told.{Told};
 // The position that the skeleton at a root address stores for a tag, as `lookup::lookup` says, which also has the order of the
 // refusals. `position` is 0 unless one is found.
 #[no_mangle]
-pub extern "C" fn rig_lookup(sys: &[u8], gfx: &[u8], root: u64, tag: u16, position: &mut u32) -> u32
+pub extern "C" fn rig_lookup(
+    sys: &[u8],
+    gfx: &[u8],
+    root: u64,
+    tag: u16,
+    position: &mut usize,
+) -> u32
     ensures told { λ r. ⌜ Told (Definitions.lookup (section (now (sys .entry)) (now (gfx .entry))) root tag)
         r (now (position .exit)) ⌝ }
 {

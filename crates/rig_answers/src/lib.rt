@@ -132,11 +132,11 @@ pub fn looked_status(r: Looked) -> u32
 }
 
 // The position found, 0 else.
-pub fn looked_position(r: Looked) -> u32
+pub fn looked_position(r: Looked) -> usize
     ensures { λ n. ⌜ n ≡ given (lookedOf r) ⌝ }
 {
     match r {
-        Looked::Found(p) => p,
+        Looked::Found(p) => p as usize,
         Looked::Nothing => 0,
         Looked::Refused(_) => 0,
     }

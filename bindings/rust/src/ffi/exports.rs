@@ -192,7 +192,7 @@ extern "C" {
         gfx_len: usize,
         root: u64,
         tag: u16,
-        position: *mut u32,
+        position: *mut usize,
     ) -> u32;
 }
 

@@ -28,7 +28,7 @@ impl Input for LookupInput {
 #[derive(Clone, Copy, Debug, PartialEq, Eq)]
 pub struct LookupAnswer {
     pub status: u32,
-    pub position: u32,
+    pub position: usize,
     /// Both halves and the guards are as they were.
     pub intact: bool,
 }
@@ -38,7 +38,7 @@ impl LookupAnswer {
         LookupAnswer { status: NONE, position: 0, intact: true }
     }
 
-    fn at(position: u32) -> Self {
+    fn at(position: usize) -> Self {
         LookupAnswer { status: DONE, position, intact: true }
     }
 }
@@ -51,16 +51,16 @@ pub fn ours(library: &dyn Checks, i: &LookupInput) -> LookupAnswer {
 
 /// Makes the call for each tag, the position dirty at entry; whether both halves and the guards are as they were.
 fn ours_of(library: &dyn Checks, s: &Section, tags: impl Iterator<Item = u16>, mut each: impl FnMut(u16, LookupAnswer)) -> bool {
-    let (mut section, mut position) = (LentSection::of(s), Lent::<u32>::dirty(1, &mut Rng::new(s.root)));
+    let (mut section, mut position) = (LentSection::of(s), Lent::<usize>::dirty(1, &mut Rng::new(s.root)));
     for tag in tags {
         let [place] = position.array();
-        *place = 0xA5A5_0000 | tag as u32;
+        *place = 0xA5A5_A5A5_A5A5_0000 | tag as usize;
         let status = library.lookup(section.halves(), s.root, tag, place);
         each(tag, LookupAnswer { status, position: *place, intact: true });
     }
     let mut intact = true;
     section.kept(&mut intact);
-    position.back::<u32>(&mut intact);
+    position.back::<usize>(&mut intact);
     intact
 }
 
@@ -69,7 +69,7 @@ pub fn rust(i: &LookupInput) -> LookupAnswer {
     match lookup(&i.section.system, &i.section.graphics, i.section.root, i.tag as u32) {
         Found::None => LookupAnswer::none(),
         Found::Refused(number) => LookupAnswer { status: number as u32, ..LookupAnswer::none() },
-        Found::At(position) => LookupAnswer::at(position),
+        Found::At(position) => LookupAnswer::at(position as usize),
     }
 }
 
@@ -78,7 +78,7 @@ pub fn rust(i: &LookupInput) -> LookupAnswer {
 pub fn all_tags(library: &dyn Checks, section: &Section, bones: &[Bone]) -> Option<(u16, LookupAnswer)> {
     let mut wanted = vec![LookupAnswer::none(); 65_536];
     if bones.len() >= 2 {
-        bones.iter().enumerate().for_each(|(position, b)| wanted[b.tag as usize] = LookupAnswer::at(position as u32));
+        bones.iter().enumerate().for_each(|(position, b)| wanted[b.tag as usize] = LookupAnswer::at(position));
     }
     let mut differing = None;
     let intact = ours_of(library, section, 0..=u16::MAX, |tag, answer| {

@@ -157,7 +157,7 @@ fn owned(halves: Halves, root: u64) -> Section {
 }
 
 impl Checks for Faulty {
-    fn lookup(&self, halves: Halves, root: u64, tag: u16, position: &mut u32) -> u32 {
+    fn lookup(&self, halves: Halves, root: u64, tag: u16, position: &mut usize) -> u32 {
         let find = |tag: u32| lookup(halves.system, halves.graphics, root, tag);
         let bones = || CheckInput::exact(owned(halves, root), 0).1.bones().to_vec();
         let least = |tag| bones().iter().position(|b| b.tag == tag).map(|p| p as u32);
@@ -172,7 +172,7 @@ impl Checks for Faulty {
         let (status, at) = match found {
             Found::None => (NONE, 0),
             Found::Refused(number) => (number as u32, 0),
-            Found::At(at) => (DONE, at),
+            Found::At(at) => (DONE, at as usize),
         };
         if !(self.is(PositionLeft) && status == NONE) {
             *position = at;

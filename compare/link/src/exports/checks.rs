@@ -4,7 +4,7 @@ use super::{declared::*, Rig};
 use crate::{Checks, Halves, ReadTables, WriteTables};
 
 impl Checks for Rig {
-    fn lookup(&self, section: Halves, root: u64, tag: u16, position: &mut u32) -> u32 {
+    fn lookup(&self, section: Halves, root: u64, tag: u16, position: &mut usize) -> u32 {
         let Halves { system, graphics } = section;
         unsafe { rig_lookup(system.as_ptr(), system.len(), graphics.as_ptr(), graphics.len(), root, tag, position) }
     }
