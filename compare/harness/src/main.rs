@@ -68,7 +68,7 @@ fn run(o: &Options) -> Result<(), String> {
     }
     stage("readings", if link::LINKED { "shown by both" } else { "shown by the Rust" }, || readings::run(o.threads))?;
     println!("the Rust alone:");
-    stage("stored sample", "cases as the Rust has them", || store::check(Path::new(STORED)))?;
+    stage("stored sample", "", || store::check(Path::new(STORED)))?;
     stage("deriving", "rigs", || rigs::derive(o.seed, 20_000 * times, o.threads))?;
     stage("writing and reading back", "rigs", || rigs::write_and_read_back(o.seed, 20_000 * times, o.threads))?;
     stage("sections scattered over both halves", "rigs", || rigs::scattered(o.seed, 20_000 * times, o.threads))?;

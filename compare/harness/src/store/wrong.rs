@@ -8,7 +8,7 @@ use Kind::*;
 use Operation::*;
 
 /// The number of the first; no other case has so great a one.
-const FIRST: u32 = 1_000_001;
+pub const FIRST: u32 = 1_000_001;
 
 /// The kinds of answers.
 #[derive(Clone, Copy, Debug, PartialEq, Eq)]
