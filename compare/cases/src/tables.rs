@@ -2,7 +2,7 @@
 //! of a row of each, the rows used, and what a reading leaves there.
 
 use crate::rows::{placed_bones, Place, BONE, ENTRY, MATRIX, POOL};
-use oracle::{Entry, Matrix, Reading, Rows};
+use oracle::{num_hash_buckets, Entry, Matrix, Reading, Rows};
 
 /// The place of each in a list of all.
 #[derive(Clone, Copy, Debug, PartialEq, Eq)]
@@ -27,10 +27,24 @@ pub fn used(r: &Rows) -> [usize; 8] {
     [r.bones, r.buckets, r.entries, r.inverse, r.local, r.parents, r.children, r.pool]
 }
 
+/// The words of so many rows of each table.
+pub fn lengths(rows: [usize; 8]) -> [usize; 8] {
+    std::array::from_fn(|table| WIDTHS[table] * rows[table])
+}
+
 /// The words of the rows used.
 pub fn exact(r: &Rows) -> [usize; 8] {
-    let rows = used(r);
-    std::array::from_fn(|table| WIDTHS[table] * rows[table])
+    lengths(used(r))
+}
+
+/// The rows of the program's tables for reading (01, "Joints and names").
+pub const PROGRAM: [usize; 8] = [800, 8_192, 4_096, 800, 800, 800, 8_192, 8_192];
+
+/// The rows that `n` bones want of the tables for deriving (01, "Who can cause a refusal"): buckets, entries, inverse,
+/// local, parents, children, pending.
+pub fn derived(n: usize) -> [usize; 7] {
+    let [buckets, entries] = if n < 2 { [0, 0] } else { [num_hash_buckets(n), n] };
+    [buckets, entries, n, n, n, 8 * (n + 1), 4 * (n + 1)]
 }
 
 /// The words of the rows that a reading leaves in each table but the pool, 16-bit words widened.

@@ -1,11 +1,44 @@
-//! Prints small named sections with the published Rust's answers, for a proof file: the base section
-//! as a list of bytes, each control as edits over it.
+//! The controls: equations of `crates/*/specs/*Controls.antt`, each value computed anew.
+//!
+//!     controls                   prints them as they stand in the specs, and whence each value comes
+//!     controls --hold CRATES     compares them with the specs in that folder: a line for each that differs, and status 1
 
-mod derived;
-mod print;
-mod sections;
+mod check;
+mod control;
+mod deriving;
+mod float;
+mod hold;
+mod joints;
+mod lent;
+mod program;
+mod reading;
+mod section;
+mod sheet;
+mod term;
+mod writing;
 
-fn main() {
-    sections::print();
-    derived::print();
+use std::path::Path;
+use std::process::ExitCode;
+
+fn main() -> ExitCode {
+    let sheets = [
+        float::sheet(),
+        control::sheet(),
+        reading::sheet(),
+        deriving::sheet(),
+        writing::sheet(),
+        check::sheet(),
+        joints::sheet(),
+        program::sheet(),
+    ];
+    let words: Vec<String> = std::env::args().skip(1).collect();
+    match &words[..] {
+        [] => sheets.iter().for_each(|sheet| sheet.print()),
+        [word, crates] if word == "--hold" => return hold::hold(Path::new(crates), &sheets),
+        _ => {
+            eprintln!("controls: no words, or --hold CRATES");
+            return ExitCode::from(2);
+        }
+    }
+    ExitCode::SUCCESS
 }

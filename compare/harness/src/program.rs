@@ -12,7 +12,8 @@ use crate::skeletons::read::ReadInput;
 use crate::skeletons::write::sizes;
 use crate::smaller::smaller_bytes;
 use crate::tally::{status, Tally};
-use cases::{rows, Rng, Section};
+use cases::tables::{lengths, PROGRAM};
+use cases::{Rng, Section};
 use link::DONE;
 use std::io::Write;
 use std::path::{Path, PathBuf};
@@ -20,21 +21,6 @@ use std::process::{Command, Stdio};
 
 /// The longest section that the program takes.
 pub const LONGEST: usize = 65_536;
-
-/// The most bones of its tables.
-const BONES: usize = 800;
-
-/// The words of its tables for reading: 800 bones, 8,192 buckets, 4,096 entries, 8,192 child entries, 8,192 pool rows.
-const TABLES: [usize; 8] = [
-    rows::BONE * BONES,
-    8_192,
-    rows::ENTRY * 4_096,
-    rows::MATRIX * BONES,
-    rows::MATRIX * BONES,
-    BONES,
-    8_192,
-    rows::POOL * 8_192,
-];
 
 /// Where the program lies.
 pub fn path() -> PathBuf {
@@ -61,7 +47,8 @@ fn wanted(bytes: &Bytes) -> (u32, usize) {
         return (1, 0);
     }
     let (exact, judged) = CheckInput::exact(Section::written(bytes.0.clone()), 0);
-    let answer = judged.lent(&CheckInput { read: ReadInput { lengths: TABLES, ..exact.read }, derived: sizes(BONES) });
+    let lent = ReadInput { lengths: lengths(PROGRAM), ..exact.read };
+    let answer = judged.lent(&CheckInput { read: lent, derived: sizes(PROGRAM[0]) });
     (answer.status, answer.count)
 }
 

@@ -8,3 +8,9 @@ pub mod Computing
 pub mod CallRefusals
 pub mod Cases
 pub mod Controls
+pub mod ReadingControls
+pub mod DerivingControls
+pub mod WritingControls
+pub mod CheckControls
+pub mod JointsControls
+pub mod ProgramControls

@@ -1,7 +1,7 @@
--- Controls: computed cases whose answers come from the Rust, since a wrong clause of a definition need break no proof. `compare/controls`
--- made them: it runs the published Rust on the section of three bones with single bytes edited, puts the check together from the Rust's
--- own functions, and follows chains for the lookup, which the Rust has not, over the Rust's own reader. Every NaN word outside column 4
--- counts as 7FC00000 hex. Definitions only.
+-- Controls: computed cases whose answers come from the Rust, since a wrong clause of a definition need break no proof. Here: the section of
+-- three bones with single bytes edited; `ReadingControls` and the files behind it have the rest. `compare/controls` computes every answer
+-- and holds these files to it: it runs the published Rust, puts the check together from the Rust's own functions, and follows chains for
+-- the lookup, which the Rust has not, over the Rust's own reader. Every NaN word outside column 4 counts as 7FC00000 hex. Definitions only.
 use mathlib.Core.Path.{_≡_}
 use Prim.Native.Nat.{ℕ}
 use mathlib.Core.Option.{Option, none, some}

@@ -24,3 +24,9 @@ pub mod CallRefusals
 pub mod TrialCases
 pub mod ControlSection
 pub mod Controls
+pub mod ReadingControls
+pub mod DerivingControls
+pub mod WritingControls
+pub mod CheckControls
+pub mod JointsControls
+pub mod ProgramControls

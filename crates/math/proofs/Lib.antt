@@ -3,3 +3,4 @@ pub mod Sizes
 pub mod Set
 pub mod Called
 pub mod Setter
+pub mod FloatControls

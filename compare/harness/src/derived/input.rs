@@ -2,9 +2,8 @@
 
 use crate::difference::Input;
 use crate::smaller::{smaller_bones, smaller_room};
-use cases::rows;
+use cases::{rows, tables};
 use link::DONE;
-use oracle::num_hash_buckets;
 
 #[derive(Clone, Copy, Debug, PartialEq, Eq)]
 pub enum Call {
@@ -25,11 +24,11 @@ impl Call {
 
     /// The words of each table that `n` bones need (01, "Who can cause a refusal"), the bones table apart.
     pub fn sizes(self, n: usize) -> Vec<usize> {
+        let [buckets, entries, inverse, local, parents, children, pending] = tables::derived(n);
         match self {
-            Tags if n < 2 => vec![0, 0],
-            Tags => vec![num_hash_buckets(n), rows::ENTRY * n],
-            Indices => vec![n, 8 * (n + 1), 2 * 4 * (n + 1)],
-            Matrices => vec![rows::MATRIX * n, rows::MATRIX * n],
+            Tags => vec![buckets, rows::ENTRY * entries],
+            Indices => vec![parents, children, 2 * pending],
+            Matrices => vec![rows::MATRIX * inverse, rows::MATRIX * local],
         }
     }
 }

@@ -1,0 +1,66 @@
+//! A sheet has the controls of one file of the specs.
+
+/// Where a value comes from.
+#[derive(Clone, Copy, Debug, PartialEq, Eq)]
+pub enum Source {
+    /// A published function gives it.
+    Published,
+    /// 01's text over published functions: check, lookup, search, and a reading in few rows.
+    Joined,
+    /// 01's text alone: the sizes of the tables for deriving, the order of the writer's refusals, what the program prints.
+    Text,
+    /// Names what other lines are about, and has no value.
+    Named,
+}
+
+/// A field of the record, `left ≡ right`, or a definition.
+pub struct Line {
+    pub name: &'static str,
+    pub term: String,
+    pub source: Source,
+}
+
+pub struct Sheet {
+    /// CRATE/specs/FILE.antt
+    pub file: &'static str,
+    pub lines: Vec<Line>,
+}
+
+impl Sheet {
+    pub fn new(file: &'static str) -> Self {
+        Sheet { file, lines: Vec::new() }
+    }
+
+    /// A definition of the file that other lines name.
+    pub fn define(&mut self, name: &'static str, term: String) {
+        self.lines.push(Line { name, term, source: Source::Named });
+    }
+
+    pub fn published(&mut self, name: &'static str, left: impl AsRef<str>, right: impl AsRef<str>) {
+        self.add(name, Source::Published, left.as_ref(), right.as_ref());
+    }
+
+    pub fn joined(&mut self, name: &'static str, left: impl AsRef<str>, right: impl AsRef<str>) {
+        self.add(name, Source::Joined, left.as_ref(), right.as_ref());
+    }
+
+    pub fn text(&mut self, name: &'static str, left: impl AsRef<str>, right: impl AsRef<str>) {
+        self.add(name, Source::Text, left.as_ref(), right.as_ref());
+    }
+
+    fn add(&mut self, name: &'static str, source: Source, left: &str, right: &str) {
+        self.lines.push(Line { name, term: format!("{left} ≡ {right}"), source });
+    }
+
+    pub fn print(&self) {
+        println!("-- {}", self.file);
+        for Line { name, term, source } in &self.lines {
+            match source {
+                Source::Named => println!("{name} = {term}"),
+                Source::Published => println!("  pub {name} : {term} -- published"),
+                Source::Joined => println!("  pub {name} : {term} -- joined"),
+                Source::Text => println!("  pub {name} : {term} -- text"),
+            }
+        }
+    }
+}

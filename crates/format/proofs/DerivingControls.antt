@@ -1,0 +1,21 @@
+-- The controls of deriving, each proved by computation. Assumes nothing.
+use mathlib.Core.Path.{refl}
+use Rattle.format.specs.DerivingControls.{DerivingControls}
+use Rattle.format.proofs.Computing.{everything}
+
+pub deriving-controls : DerivingControls
+unfolding everything
+deriving-controls =
+    record {
+      ladder = refl;
+      twoBones = refl;
+      rootMinusTwo = refl;
+      rootLeast = refl;
+      ownParent = refl;
+      threeSteps = refl;
+      turnedOtherwise = refl;
+      climbsToNoNegative = refl;
+      sizes = refl;
+      sizesOfNone = refl;
+      sizesOfOne = refl;
+    }

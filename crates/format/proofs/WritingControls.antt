@@ -1,0 +1,17 @@
+-- The controls of writing, each proved by computation. Assumes nothing.
+use mathlib.Core.Path.{refl}
+use Rattle.format.specs.WritingControls.{WritingControls}
+use Rattle.format.proofs.Computing.{everything}
+
+pub writing-controls : WritingControls
+unfolding everything
+writing-controls =
+    record {
+      freeWords = refl;
+      longestName = refl;
+      twoBeforeFour = refl;
+      mostBones = refl;
+      fourBeforeOne = refl;
+      oneBeforeFive = refl;
+      five = refl;
+    }

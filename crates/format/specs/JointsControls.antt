@@ -1,0 +1,50 @@
+-- Controls of the joints (see `Controls`): what is written, the bytes that must stand, the order of the refusals, the fresh limit.
+-- Definitions only.
+use mathlib.Core.Path.{_≡_}
+use mathlib.Core.Option.{none, some}
+use mathlib.Core.List.{[], _∷_, _++_}
+use lib.ListN.{replicate}
+use Rattle.format.specs.Result.{refused, done}
+use Rattle.format.specs.Field.{wordBytes}
+use Rattle.format.specs.Bone.{words3}
+use Rattle.format.specs.Chains.{upFrom}
+use Rattle.format.specs.Layout.{base}
+use Rattle.format.specs.Joints.{RotationLimit, TranslationLimit, jointsLayout, jointsWritten, readJoints, freshSlots}
+use Rattle.format.specs.ReadingControls.{halves}
+
+-- limits whose words are all different
+abbrev pub rotation1 : RotationLimit
+rotation1 = record { id = 5; second = 6; least = words3 101 102 103; greatest = words3 104 105 106; other = upFrom 200 48 }
+
+abbrev pub translation1 : TranslationLimit
+translation1 = record { id = 65543; least = words3 111 112 113; greatest = words3 114 115 116; other = upFrom 300 16 }
+
+pub record JointsControls : Type 0 where
+  -- each of the words that are written, the joints, the rotation limit and the translation limit
+  pub laid : jointsLayout (rotation1 ∷ []) (translation1 ∷ []) ≡
+      wordBytes 4 (0x4061_7C60 ∷ 1 ∷ 0 ∷ 0 ∷ 0x5000_0040 ∷ 0 ∷ 0x5000_0100 ∷ 0 ∷
+      0 ∷ 0 ∷ 0 ∷ 0 ∷ 0x1_0001 ∷ 0x1_0000 ∷ 0 ∷ 0 ∷
+      200 ∷ 201 ∷ 0x6_0005 ∷ 203 ∷ 204 ∷ 205 ∷ 206 ∷ 207 ∷
+      208 ∷ 209 ∷ 210 ∷ 211 ∷ 212 ∷ 213 ∷ 214 ∷ 215 ∷
+      216 ∷ 217 ∷ 218 ∷ 219 ∷ 220 ∷ 221 ∷ 222 ∷ 101 ∷
+      102 ∷ 103 ∷ 104 ∷ 105 ∷ 106 ∷ 229 ∷ 230 ∷ 231 ∷
+      232 ∷ 233 ∷ 234 ∷ 235 ∷ 236 ∷ 237 ∷ 238 ∷ 239 ∷
+      240 ∷ 241 ∷ 242 ∷ 243 ∷ 244 ∷ 245 ∷ 246 ∷ 247 ∷
+      300 ∷ 301 ∷ 0x1_0007 ∷ 303 ∷ 304 ∷ 305 ∷ 306 ∷ 307 ∷
+      111 ∷ 112 ∷ 113 ∷ 311 ∷ 114 ∷ 115 ∷ 116 ∷ 315 ∷ [])
+  -- the last field read ends at 52
+  pub fiftyTwo : readJoints (halves (replicate 52 0) []) 0 0 base ≡
+      done (some (record { kind = 0; rotationCount = 0; translationCount = 0; rotation = none; translation = none }))
+  pub fiftyOne : readJoints (halves (replicate 51 0) []) 0 0 base ≡ refused 11
+  -- one rotation limit at the address 1, and no row for it: 10 goes before 1
+  pub bytesBeforeRows : readJoints (halves (replicate 16 0 ++ 1 ∷ replicate 31 0 ++ 1 ∷ replicate 3 0) []) 0 0 base ≡ refused 10
+  -- 65,536 limits and no buffer
+  pub sixBeforeFive : jointsWritten 0 (replicate 65536 rotation1) [] ≡ refused 6
+  -- the slots of the fresh rotation limit
+  pub fresh : freshSlots ≡
+      0 ∷ 0 ∷ 0 ∷ 1 ∷ 3 ∷ 0 ∷ 0 ∷ 0 ∷
+      0 ∷ 0 ∷ 0 ∷ 0x3F80_0000 ∷ 0 ∷ 0 ∷ 0 ∷ 0 ∷
+      0x3F80_0000 ∷ 0 ∷ 0 ∷ 0 ∷ 0xC049_0FDB ∷ 0x4049_0FDB ∷ 0x3F80_0000 ∷ 0 ∷
+      0 ∷ 0 ∷ 0 ∷ 0 ∷ 0 ∷ 0x4049_0FDB ∷ 0xC049_0FDB ∷ 0x4049_0FDB ∷
+      0x4049_0FDB ∷ 0xC049_0FDB ∷ 0x4049_0FDB ∷ 0x4049_0FDB ∷ 0xC049_0FDB ∷ 0x4049_0FDB ∷ 0x4049_0FDB ∷ 0xC049_0FDB ∷
+      0x4049_0FDB ∷ 0x4049_0FDB ∷ 0xC049_0FDB ∷ 0x4049_0FDB ∷ 0x4049_0FDB ∷ 0xC049_0FDB ∷ 0x4049_0FDB ∷ 256 ∷ []

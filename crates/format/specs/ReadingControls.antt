@@ -1,0 +1,114 @@
+-- Controls of reading (see `Controls`): halves and names, the pool, bytes that must stand, the order, where 1 is met. Definitions only.
+use mathlib.Core.Path.{_≡_}
+use Prim.Native.Nat.{ℕ}
+use mathlib.Core.Option.{Option, none, some}
+use mathlib.Core.List.{List, [], _∷_}
+use lib.ListN.{length, replicate}
+use Rattle.format.specs.Result.{Res, refused, done}
+use Rattle.format.specs.Section.{Section, Place, part, nameAt, nameBytes}
+use Rattle.format.specs.Bone.{words4}
+use Rattle.format.specs.Tables.{Room}
+use Rattle.format.specs.Layout.{Bytes, base, layout}
+use Rattle.format.specs.Check.{Read, read, check}
+use Rattle.format.specs.Program.{programRoom, programDeriveRoom}
+use Rattle.format.specs.TrialCases.{noFree}
+use Rattle.format.specs.Controls.{edited, controlWith, readWith, checkWith, childrenRead, keptRead}
+
+-- system bytes and graphics bytes
+abbrev pub halves : Bytes → Bytes → Section
+halves s g = record { system = s; graphics = g }
+
+-- an address and a length
+abbrev pub placeAt : ℕ → ℕ → Place
+placeAt a n = record { address = a; size = n }
+
+-- the check of the section of no bones with bytes edited
+abbrev pub checkEmptyWith : List (ℕ × ℕ) → Res (Option ℕ)
+checkEmptyWith es = check (halves (edited es (layout [] noFree)) []) programRoom programDeriveRoom base
+
+-- the program's tables, but for the rows of bones, buckets, entries, inverse matrices and the pool
+abbrev pub roomOf : (bones buckets entries inverse pool : ℕ) → Room
+roomOf o b e i p = record { bones = o; buckets = b; entries = e; inverse = i; local = 800; parents = 800; children = 8192; pool = p }
+
+abbrev pub parentsRead : Res (Option Read) → List ℕ
+parentsRead (done (some r)) = r .parents
+parentsRead (done none) = []
+parentsRead (refused n) = []
+
+-- the words of the inverse matrices read
+abbrev pub inverseCount : Res (Option Read) → ℕ
+inverseCount (done (some r)) = length (r .inverse)
+inverseCount (done none) = 0
+inverseCount (refused n) = 0
+
+pub record ReadingControls : Type 0 where
+  -- ---- halves and names
+  -- 60000000 hex is the first byte of the graphics half
+  pub graphicsHalf : part (halves (1 ∷ []) (2 ∷ [])) 0x6000_0000 1 ≡ done (2 ∷ [])
+  -- bone 0's name lies at the section's end: an empty name
+  pub nameAtEnd : checkWith ((328, 176) ∷ (329, 3) ∷ []) ≡ done (some 3)
+  -- a name of 300 bytes up to the end of its half
+  pub longName : nameAt (halves (replicate 300 65) []) base ≡ done (placeAt base 300)
+  -- a place in neither half has no bytes
+  pub nameOutside : nameBytes (controlWith []) (placeAt 0x7000_0000 2) ≡ []
+  -- ---- the pool
+  -- the names of bones 0 and 2 both lie at bone 0: read as a name, then as a bone, then asked for as a name
+  pub laterReplaces : readWith ((328, 16) ∷ (329, 1) ∷ (488, 16) ∷ (489, 1) ∷ []) ≡ refused 12
+  -- the bones block lies at the first entry
+  pub blockAtEntry : readWith ((32, 224) ∷ (33, 0) ∷ []) ≡ refused 12
+  -- the parents pointer is the inverse pointer: other kinds of lists, so that the bytes are read anew
+  pub parentsAtInverse : parentsRead (readWith ((56, 16) ∷ (57, 2) ∷ [])) ≡ 52748 ∷ 16071 ∷ 19181 ∷ []
+  -- parents and children lie at the bones block, which stays in the pool: each is read anew
+  pub bothAtBlock : childrenRead (readWith ((56, 0) ∷ (57, 1) ∷ (64, 0) ∷ (65, 1) ∷ [])) ≡ 3 ∷ 0 ∷ 0 ∷ 0 ∷ 0 ∷ 0 ∷ 0 ∷ 0 ∷ []
+  -- the parents lie at bone 0's name: a list is read at any other kind
+  pub parentsAtName : parentsRead (readWith ((56, 0) ∷ (57, 2) ∷ [])) ≡ 25928 ∷ 0 ∷ 0 ∷ []
+  -- no local list: no kept words, whatever column 4 of the inverse list has
+  pub noLocal : keptRead (readWith ((48, 0) ∷ (49, 0) ∷ (51, 0) ∷ (540, 7) ∷ [])) ≡ replicate 3 (words4 0 0 0 0)
+  -- ---- what reading does not look at
+  -- bone 0's second index
+  pub secondIndex : checkWith ((342, 9) ∷ []) ≡ done (some 3)
+  -- the skeleton's kind word
+  pub kindWord : checkWith ((0, 1) ∷ []) ≡ done (some 3)
+  -- the 1.0 at 44 in bone 0
+  pub constantAt44 : checkWith ((319, 0) ∷ []) ≡ done (some 3)
+  -- the count in the header of the bones block
+  pub blockCount : checkWith ((256, 9) ∷ []) ≡ done (some 3)
+  -- ---- the bytes that must stand
+  -- a bone needs 70 bytes of its 80: of one that has them the parents are missing
+  pub bone70 : checkEmptyWith ((32, 42) ∷ (35, 80) ∷ (94, 1) ∷ []) ≡ refused 22
+  pub bone69 : checkEmptyWith ((32, 43) ∷ (35, 80) ∷ (94, 1) ∷ []) ≡ refused 11
+  -- an entry needs all its 16 bytes: one that has them is an entry too many
+  pub entry16 : checkEmptyWith ((16, 104) ∷ (19, 80) ∷ (24, 1) ∷ (104, 96) ∷ (107, 80) ∷ []) ≡ refused 21
+  pub entry15 : checkEmptyWith ((16, 104) ∷ (19, 80) ∷ (24, 1) ∷ (104, 97) ∷ (107, 80) ∷ []) ≡ refused 11
+  -- a block of no bones needs none: its header lies at the section's end
+  pub emptyBlock : checkEmptyWith ((32, 128) ∷ (35, 80) ∷ []) ≡ done (some 0)
+  -- ---- where 1 is met: behind the bytes of what takes the row
+  -- no row for a bone, whose name's address has its bit 32 set
+  pub nameBeforeRow : read (controlWith ((332, 1) ∷ [])) (roomOf 0 11 3 3 15) base ≡ refused 10
+  -- no row for a bucket, whose chain begins in neither half
+  pub chainBeforeBucket : read (controlWith ((112, 1) ∷ [])) (roomOf 3 0 3 3 15) base ≡ refused 10
+  -- no row for an entry, which lies in neither half
+  pub entryBeforeRow : read (controlWith ((155, 64) ∷ [])) (roomOf 3 11 0 3 15) base ≡ refused 10
+  -- no row for the inverse matrices, which lie in neither half
+  pub bytesBeforeRows : read (controlWith ((43, 64) ∷ [])) (roomOf 3 11 3 0 15) base ≡ refused 10
+  -- no row for a bone, and none for the inverse matrices
+  pub noBoneRow : read (controlWith []) (roomOf 0 11 3 3 15) base ≡ refused 1
+  pub noInverseRow : read (controlWith []) (roomOf 3 11 3 0 15) base ≡ refused 1
+  -- three bones want fifteen pool rows
+  pub poolFull : read (controlWith []) (roomOf 3 11 3 3 14) base ≡ refused 1
+  pub poolHolds : inverseCount (read (controlWith []) (roomOf 3 11 3 3 15) base) ≡ 48
+  -- an entry that links to itself takes one row
+  pub selfLink : inverseCount (read (controlWith ((216, 208) ∷ [])) (roomOf 3 11 1 3 15) base) ≡ 48
+  -- ---- the order of reading
+  -- 10 of the buckets goes before 13 of the bones pointer 15
+  pub bucketsBefore13 : readWith ((32, 15) ∷ (33, 0) ∷ (35, 0) ∷ (19, 64) ∷ []) ≡ refused 10
+  -- bone 0's name lies at the skeleton, which is pooled last
+  pub nameAtRoot : checkWith ((328, 0) ∷ (329, 0) ∷ []) ≡ done (some 3)
+  -- bone 0's name lies at the bones block, which is pooled behind its bones
+  pub nameAtBlock : checkWith ((328, 0) ∷ (329, 1) ∷ []) ≡ done (some 3)
+  -- the last entry links to the bucket array, which is pooled behind its chains: a chain too long
+  pub linkAtBuckets : checkWith ((248, 112) ∷ (251, 80) ∷ []) ≡ refused 21
+  -- the bones pointer is 16: no bones, and the matrices of three
+  pub matricesWithoutBones : inverseCount (readWith ((33, 0) ∷ (35, 0) ∷ [])) ≡ 48
+  -- root 0
+  pub rootZero : read (controlWith []) programRoom 0 ≡ done none

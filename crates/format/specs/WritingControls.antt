@@ -1,0 +1,53 @@
+-- Controls of writing (see `Controls`): the free words, the names that are taken, and the order of the refusals, which the Rust has not:
+-- it is that of docs/FORMAT.md, "Who can cause a refusal". Definitions only.
+use mathlib.Core.Path.{_≡_}
+use mathlib.Core.Bool.{true, false}
+use mathlib.Core.Option.{Option, none, some}
+use mathlib.Core.List.{[], _∷_, map}
+use lib.ListN.{replicate}
+use Rattle.format.specs.Result.{refused}
+use Rattle.format.specs.Field.{field}
+use Rattle.format.specs.Section.{Place}
+use Rattle.format.specs.Bone.{Bone, words3, words4, minusOne}
+use Rattle.format.specs.Deriving.{DeriveRoom}
+use Rattle.format.specs.Layout.{layout}
+use Rattle.format.specs.Write.{goodBytes, written}
+use Rattle.format.specs.Program.{programDeriveRoom}
+use Rattle.format.specs.TrialCases.{noFree}
+use Rattle.format.specs.ReadingControls.{halves, placeAt}
+use Rattle.format.specs.DerivingControls.{deriveRoom}
+
+-- tables of no rows
+abbrev pub noDeriving : DeriveRoom
+noDeriving = deriveRoom 0 0 0 0 0 0 0
+
+-- a root at rest, its name at a place
+abbrev pub placedBone : Option Place → Bone Place
+placedBone n =
+    record {
+      rotation = words4 0 0 0 0x3F80_0000;
+      translation = words3 0 0 0;
+      scale = words3 0x3F80_0000 0x3F80_0000 0x3F80_0000;
+      nextSibling = minusOne;
+      parent = minusOne;
+      name = n;
+      flags = 0;
+      index = 0;
+      tag = 0;
+      kept = words4 0 0 0 0;
+    }
+
+pub record WritingControls : Type 0 where
+  -- the four free words lie at 28, 80, 84 and 88
+  pub freeWords : map (field 4 (layout [] (words4 1 2 3 4))) (28 ∷ 80 ∷ 84 ∷ 88 ∷ []) ≡ 1 ∷ 2 ∷ 3 ∷ 4 ∷ []
+  -- names of 255 bytes, of 256, and with a zero byte
+  pub longestName : map goodBytes ((replicate 255 65) ∷ (replicate 256 65) ∷ (65 ∷ 0 ∷ []) ∷ []) ≡ true ∷ false ∷ false ∷ []
+  -- 65,536 bones: 2 goes before 4; 65,535 are not too many
+  pub twoBeforeFour : written (halves [] []) noDeriving 0 (replicate 65536 (placedBone (some (placeAt 0x7000_0000 1)))) noFree ≡ refused 2
+  pub mostBones : written (halves [] []) noDeriving 0 (replicate 65535 (placedBone none)) noFree ≡ refused 1
+  -- a name in neither half: 4 goes before 1
+  pub fourBeforeOne : written (halves [] []) noDeriving 0 (placedBone (some (placeAt 0x7000_0000 1)) ∷ []) noFree ≡ refused 4
+  -- no tables and no buffer: 1 goes before 5
+  pub oneBeforeFive : written (halves [] []) noDeriving 0 (placedBone none ∷ []) noFree ≡ refused 1
+  -- one root wants 352 bytes
+  pub five : written (halves [] []) programDeriveRoom 351 (placedBone none ∷ []) noFree ≡ refused 5
