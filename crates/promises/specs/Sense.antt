@@ -68,5 +68,12 @@ pub record Sense : Type 0 where
   -- Found: tag 5 is borne by the bones at 0 and 2, tag 27 by none
   pub tagFound : (lookup (controlWith []) base 5 ≡ done (some 2)) × Right (5 ∷ 16 ∷ 5 ∷ []) 5 (done (some 2))
   pub tagNotFound : (lookup (controlWith []) base 27 ≡ done none) × Right (5 ∷ 16 ∷ 5 ∷ []) 27 (done none)
+  -- and answers that are not right: bone 0 bears tag 5 and is not the last to, bone 1 does not bear it, position 3 holds no bone, some bone
+  -- bears it, it is not refused
+  pub notGreatest : Right (5 ∷ 16 ∷ 5 ∷ []) 5 (done (some 0)) → ⊥
+  pub notBearing : Right (5 ∷ 16 ∷ 5 ∷ []) 5 (done (some 1)) → ⊥
+  pub notStanding : Right (5 ∷ 16 ∷ 5 ∷ []) 0 (done (some 3)) → ⊥
+  pub notNone : Right (5 ∷ 16 ∷ 5 ∷ []) 5 (done none) → ⊥
+  pub notRefused : Right (5 ∷ 16 ∷ 5 ∷ []) 5 (refused 14) → ⊥
   -- Back: the writer takes the three bones, one with a name, one without, one with an empty name
   pub taken : written lentName programDeriveRoom 944 (placedBones three) noFree ≡ done controlBytes
