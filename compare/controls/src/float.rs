@@ -4,10 +4,10 @@ use crate::sheet::Sheet;
 use crate::term::{applied, row};
 use oracle::{Mat4, Vec3, Vec4};
 
-const LEFT: [f32; 4] = [0.37, -0.81, 0.59, 1.43];
-const RIGHT: [f32; 4] = [-0.67, 0.29, 1.13, 0.71];
-const POINT: [f32; 3] = [1.7, -0.47, 2.3];
-const MATRIX: [f32; 16] = [1.3, -0.7, 0.41, 2.9, -1.7, 0.23, 3.1, -0.59, 0.83, 1.9, -2.3, 0.37, -1.1, 2.7, 0.61, -3.7];
+const LEFT: [f32; 4] = [-2.62, 0.43, -0.67, 2.65];
+const RIGHT: [f32; 4] = [-2.4, 1.81, -2.28, -2.3];
+const POINT: [f32; 3] = [1.69, -0.63, 0.72];
+const MATRIX: [f32; 16] = [0.74, 0.76, 0.85, 0.96, -2.62, -0.83, 2.73, 2.65, 2.4, 2.17, -2.47, -2.49, 2.01, 2.02, 0.41, 0.49];
 
 pub fn sheet() -> Sheet {
     let mut s = Sheet::new("math/specs/FloatControls.antt");

@@ -34,7 +34,7 @@ pub fn sheet() -> Sheet {
     let bytes = lay(&[zeros(16), u64(1), zeros(24), u16(1), zeros(2)]);
     assert_eq!(bytes.len(), 52);
     let term = "replicate 16 0 ++ 1 ∷ replicate 31 0 ++ 1 ∷ replicate 3 0";
-    s.published("bytesBeforeRows", format!("readJoints (halves ({term}) []) 0 0 base"), read(&bytes));
+    s.published("limitBytesFirst", format!("readJoints (halves ({term}) []) 0 0 base"), read(&bytes));
     let Written::Refused(number) = joints_write(&vec![r; 65_536], &[]) else { panic!("65,536 limits are too many") };
     s.published("sixBeforeFive", "jointsWritten 0 (replicate 65536 rotation1) []", format!("refused {number}"));
     s.published("fresh", "freshSlots", row(&fresh_rotation_limit().other));

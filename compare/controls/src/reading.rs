@@ -27,6 +27,7 @@ pub fn sheet() -> Sheet {
     checks_empty(&mut s, "entry16", &[(16, 104), (19, 80), (24, 1), (104, 96), (107, 80)]);
     checks_empty(&mut s, "entry15", &[(16, 104), (19, 80), (24, 1), (104, 97), (107, 80)]);
     checks_empty(&mut s, "emptyBlock", &[(32, 128), (35, 80)]);
+    checks_empty(&mut s, "blockPastEnd", &[(32, 129), (35, 80)]);
     room(&mut s);
     readings(&mut s, "bucketsBefore13", &[(32, 15), (33, 0), (35, 0), (19, 64)]);
     checks(&mut s, "nameAtRoot", &[(328, 0), (329, 0)]);

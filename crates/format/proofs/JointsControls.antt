@@ -10,7 +10,7 @@ joints-controls =
       laid = refl;
       fiftyTwo = refl;
       fiftyOne = refl;
-      bytesBeforeRows = refl;
+      limitBytesFirst = refl;
       sixBeforeFive = refl;
       fresh = refl;
     }

@@ -26,6 +26,7 @@ reading-controls =
       entry16 = refl;
       entry15 = refl;
       emptyBlock = refl;
+      blockPastEnd = refl;
       nameBeforeRow = refl;
       chainBeforeBucket = refl;
       entryBeforeRow = refl;

@@ -37,7 +37,7 @@ pub record JointsControls : Type 0 where
       done (some (record { kind = 0; rotationCount = 0; translationCount = 0; rotation = none; translation = none }))
   pub fiftyOne : readJoints (halves (replicate 51 0) []) 0 0 base ≡ refused 11
   -- one rotation limit at the address 1, and no row for it: 10 goes before 1
-  pub bytesBeforeRows : readJoints (halves (replicate 16 0 ++ 1 ∷ replicate 31 0 ++ 1 ∷ replicate 3 0) []) 0 0 base ≡ refused 10
+  pub limitBytesFirst : readJoints (halves (replicate 16 0 ++ 1 ∷ replicate 31 0 ++ 1 ∷ replicate 3 0) []) 0 0 base ≡ refused 10
   -- 65,536 limits and no buffer
   pub sixBeforeFive : jointsWritten 0 (replicate 65536 rotation1) [] ≡ refused 6
   -- the slots of the fresh rotation limit

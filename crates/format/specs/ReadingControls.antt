@@ -80,8 +80,9 @@ pub record ReadingControls : Type 0 where
   -- an entry needs all its 16 bytes: one that has them is an entry too many
   pub entry16 : checkEmptyWith ((16, 104) ∷ (19, 80) ∷ (24, 1) ∷ (104, 96) ∷ (107, 80) ∷ []) ≡ refused 21
   pub entry15 : checkEmptyWith ((16, 104) ∷ (19, 80) ∷ (24, 1) ∷ (104, 97) ∷ (107, 80) ∷ []) ≡ refused 11
-  -- a block of no bones needs none: its header lies at the section's end
+  -- a block of no bones needs none, but a legal address: the section's end is one, and the next is not
   pub emptyBlock : checkEmptyWith ((32, 128) ∷ (35, 80) ∷ []) ≡ done (some 0)
+  pub blockPastEnd : checkEmptyWith ((32, 129) ∷ (35, 80) ∷ []) ≡ refused 11
   -- ---- where 1 is met: behind the bytes of what takes the row
   -- no row for a bone, whose name's address has its bit 32 set
   pub nameBeforeRow : read (controlWith ((332, 1) ∷ [])) (roomOf 0 11 3 3 15) base ≡ refused 10

@@ -1,5 +1,5 @@
--- Controls: the four formulas on ordinary numbers, whose answers come from `src/math.rs` itself: a changed sign, term or component shows in
--- a word. `compare/controls` computes them. Definitions only.
+-- Controls: the four formulas on ordinary numbers, chosen so that any other sign, operation or component shows in a word, and most other
+-- orders of rounding. The answers come from the published `src/math.rs`, by `compare/controls`. Definitions only.
 use mathlib.Core.Path.{_≡_}
 use Prim.Native.Nat.{ℕ}
 use mathlib.Core.List.{List, [], _∷_, map}
@@ -28,35 +28,35 @@ words3 v = wordOf v.x ∷ wordOf v.y ∷ wordOf v.z ∷ []
 abbrev pub words4 : Vec4 → List ℕ
 words4 v = wordOf v.x ∷ wordOf v.y ∷ wordOf v.z ∷ wordOf v.w ∷ []
 
--- (0.37, -0.81, 0.59, 1.43)
+-- (-2.62, 0.43, -0.67, 2.65)
 abbrev pub left : Vec4
-left = quat 0x3EBD_70A4 0xBF4F_5C29 0x3F17_0A3D 0x3FB7_0A3D
+left = quat 0xC027_AE14 0x3EDC_28F6 0xBF2B_851F 0x4029_999A
 
--- (-0.67, 0.29, 1.13, 0.71)
+-- (-2.4, 1.81, -2.28, -2.3)
 abbrev pub right : Vec4
-right = quat 0xBF2B_851F 0x3E94_7AE1 0x3F90_A3D7 0x3F35_C28F
+right = quat 0xC019_999A 0x3FE7_AE14 0xC011_EB85 0xC013_3333
 
--- (1.7, -0.47, 2.3)
+-- (1.69, -0.63, 0.72)
 abbrev pub point : Vec3
-point = vector 0x3FD9_999A 0xBEF0_A3D7 0x4013_3333
+point = vector 0x3FD8_51EC 0xBF21_47AE 0x3F38_51EC
 
--- 1.3, -0.7, 0.41, 2.9; -1.7, 0.23, 3.1, -0.59; 0.83, 1.9, -2.3, 0.37; -1.1, 2.7, 0.61, -3.7
+-- 0.74, 0.76, 0.85, 0.96; -2.62, -0.83, 2.73, 2.65; 2.4, 2.17, -2.47, -2.49; 2.01, 2.02, 0.41, 0.49
 abbrev pub matrix : Mat4
 matrix =
     matrixOf
-    (0x3FA6_6666 ∷ 0xBF33_3333 ∷ 0x3ED1_EB85 ∷ 0x4039_999A ∷ 0xBFD9_999A ∷ 0x3E6B_851F ∷ 0x4046_6666 ∷ 0xBF17_0A3D ∷
-    0x3F54_7AE1 ∷ 0x3FF3_3333 ∷ 0xC013_3333 ∷ 0x3EBD_70A4 ∷ 0xBF8C_CCCD ∷ 0x402C_CCCD ∷ 0x3F1C_28F6 ∷ 0xC06C_CCCD ∷ [])
+    (0x3F3D_70A4 ∷ 0x3F42_8F5C ∷ 0x3F59_999A ∷ 0x3F75_C28F ∷ 0xC027_AE14 ∷ 0xBF54_7AE1 ∷ 0x402E_B852 ∷ 0x4029_999A ∷
+    0x4019_999A ∷ 0x400A_E148 ∷ 0xC01E_147B ∷ 0xC01F_5C29 ∷ 0x4000_A3D7 ∷ 0x4001_47AE ∷ 0x3ED1_EB85 ∷ 0x3EFA_E148 ∷ [])
 
 pub record FloatControls : Type 0 where
   -- `Vec4::quat_mul`
-  pub multiplied : words4 (quatMul left right) ≡ 0xBFE4_1206 ∷ 0xBF79_4AF6 ∷ 0x3FCC_B922 ∷ 0x3F54_D6A1 ∷ []
+  pub multiplied : words4 (quatMul left right) ≡ 0xBDD0_48A8 ∷ 0xBF0E_DF94 ∷ 0xC103_6113 ∷ 0xC16B_05BC ∷ []
   -- `Vec4::quat_rotate`
-  pub rotated : words3 (quatRotate left point) ≡ 0xC09E_D4DB ∷ 0xC032_FD22 ∷ 0x4052_3572 ∷ []
+  pub rotated : words3 (quatRotate left point) ≡ 0x4039_85E8 ∷ 0x4105_BD4C ∷ 0x3FE1_8728 ∷ []
   -- `Mat4::from_quat_pos`
   pub placed : matrixWords (fromQuatPos left point) ≡
-      0xBF81_1340 ∷ 0x3F8B_4394 ∷ 0x4030_346D ∷ 0 ∷ 0xC012_5AEE ∷ 0x3CF5_C2A0 ∷ 0x3DD1_B720 ∷ 0 ∷
-      0xBFF0_A3D6 ∷ 0xC000_E560 ∷ 0xBF16_0418 ∷ 0 ∷ 0x3FD9_999A ∷ 0xBEF0_A3D7 ∷ 0x4013_3333 ∷ 0x3F80_0000 ∷ []
+      0xBE89_02E0 ∷ 0xC0B9_BC02 ∷ 0x3F9D_AB9E ∷ 0 ∷ 0x3FA6_1E50 ∷ 0xC15A_068D ∷ 0xC167_652C ∷ 0 ∷
+      0x40B9_460A ∷ 0x4154_F4F0 ∷ 0xC151_93DC ∷ 0 ∷ 0x3FD8_51EC ∷ 0xBF21_47AE ∷ 0x3F38_51EC ∷ 0x3F80_0000 ∷ []
   -- `Mat4::inverse`
   pub inverted : matrixWords (inverse matrix) ≡
-      0x3F56_8E3E ∷ 0xBF34_4B34 ∷ 0xBF1C_B02D ∷ 0x3F35_3EF6 ∷ 0x3E31_0D0F ∷ 0x3E65_2145 ∷ 0x3EBC_C1E6 ∷ 0x3E0B_FBF5 ∷
-      0x3EDF_C99F ∷ 0xBC1D_74CA ∷ 0xBE92_8194 ∷ 0x3EA1_88FB ∷ 0xBD50_A238 ∷ 0x3EBD_FDF1 ∷ 0x3ECE_C10F ∷ 0xBEA8_707D ∷ []
+      0xBFF8_CD1A ∷ 0xBF31_EC63 ∷ 0xBF94_1258 ∷ 0x3FD8_1F46 ∷ 0x3FAA_1F16 ∷ 0x3F2F_B101 ∷ 0x3F89_1403 ∷ 0xBF5F_9A99 ∷
+      0xC1A5_6809 ∷ 0xBF1A_4D32 ∷ 0xC0BC_5D70 ∷ 0x415D_AD89 ∷ 0x419E_5B21 ∷ 0x3F06_AE82 ∷ 0x40A8_2F9F ∷ 0xC14E_09A9 ∷ []
