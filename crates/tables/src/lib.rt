@@ -51,10 +51,11 @@ pub fn clear64(t: &mut [u64])
     }
 }
 
-// The first n bytes of the caller's buffer, as a part of it; the empty part if n is above its length. Nothing is stored. The contract
-// speaks of the part alone: a slice of which a part is handed back has no exit that it could name.
+// The first n bytes of the caller's buffer, as a part of it that starts where the buffer does; the empty part if n is above its length.
+// Nothing is stored, but of the bytes behind the part the contract cannot speak: a slice of which a part is handed back has no exit.
 pub fn front<'a>(out: &'a mut [u8], n: usize) -> &'a mut [u8]
     ensures part { λ r. ⌜ now r ≡ frontOf n (now (out .entry)) ⌝ }
+    ensures place { λ r. ⌜ r .ptr ≡ out .entry .ptr ⌝ }
 {
     if n <= out.len() {
         return &mut out[..n];

@@ -15,14 +15,14 @@ slice-aggregate-result c =
 
 returns : tie.Need-returns
 unfolding whichList
-returns c = simp (le-leb _ _ (c .before .if1 .taken))
+returns c = (simp (le-leb _ _ (c .before .if1 .taken)), search needs)
 
 slice-aggregate-result-2 : tie.Need-slice-aggregate-result-2
 slice-aggregate-result-2 c = search needs
 
 returns-2 : tie.Need-returns-2
 unfolding whichList
-returns-2 c = simp (lt-leb _ _ (c .before .if1 .left))
+returns-2 c = (simp (lt-leb _ _ (c .before .if1 .left)), search needs)
 
 pub front-spec : {M : Type 1} → statement M
 front-spec = tie.close (tie.spec slice-aggregate-result returns slice-aggregate-result-2 returns-2)
