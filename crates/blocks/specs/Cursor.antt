@@ -1,11 +1,12 @@
 -- A cursor: what each of its reads gives, and what it leaves (docs/FORMAT.md, "Finding bytes": "A cursor read past the end yields zero and
 -- marks the overrun"). Definitions only.
 use Prim.Native.Nat.{ℕ, _+_, _-_, _^_, min}
-use mathlib.Core.Bool.{Bool, true, false, not, _||_}
+use mathlib.Core.Bool.{Bool, false, not, _||_}
 use mathlib.Core.List.{List}
 use denote.Ref.{RefT, now}
+use Rattle.format.specs.Result.{Res, refused, done, need}
+use Rattle.format.specs.Refusal.{number}
 use Rattle.format.specs.Field.{field, stands, orZero, fieldAt}
-use Rattle.format.specs.declared.Refusal.the-variants.{PastTheEnd}
 use Rattle.format.specs.declared.Words3.{Words3}
 use Rattle.format.specs.declared.Words4.{Words4}
 use Rattle.blocks.specs.declared.cursor.Cursor.{Cursor}
@@ -36,10 +37,10 @@ unfoldable pub words4At : List ℕ → ℕ → Words4
 words4At s at =
     record { x = wordWithin 16 s at at; y = wordWithin 16 s at (at + 4); z = wordWithin 16 s at (at + 8); w = wordWithin 16 s at (at + 12) }
 
--- 11 where the mark is set
-abbrev pub markedCheck : Bool → CursorCheck
-markedCheck true = Refused PastTheEnd
-markedCheck false = Within
+-- what a check tells: nothing, or the refusal's number
+abbrev pub checkOf : CursorCheck → Res (Unit {0})
+checkOf Within = done tt
+checkOf (Refused r) = refused (number r)
 
 -- ---- over a cursor
 
@@ -60,6 +61,10 @@ taken k c =
 -- the cursor n bytes further on, its mark as it was
 abbrev pub skipped : ℕ → Cursor → Cursor
 skipped n c = record { «data» = c .«data»; pos = saturatingAdd (c .pos) n; base = c .base; overrun = c .overrun }
+
+-- 11 where the mark is set
+abbrev pub unmarked : Cursor → Res (Unit {0})
+unmarked c = need 11 (not (c .overrun))
 
 -- the address that a cursor is at
 abbrev pub vaOf : Cursor → ℕ

@@ -1,8 +1,11 @@
 // A cursor: a reader that holds its bytes and its position (docs/FORMAT.md, "Finding bytes"; `Cursor` of `src/blocks/mod.rs`). A read
 // that runs past the end yields zero and marks the overrun, and `check` then refuses.
 ghost use mathlib.Core.Path.{_≡_};
+ghost use mathlib.Core.Bool.{not};
+ghost use Rattle.format.specs.Result.{need};
 ghost use Rattle.format.specs.Field.{fieldAt};
-ghost use Rattle.blocks.specs.Cursor.{saturatingAdd, afterRead, words3At, words4At, markedCheck, cursorAt, readBy, taken, skipped, vaOf};
+ghost use Rattle.blocks.specs.Cursor.{saturatingAdd, afterRead, words3At, words4At, checkOf};
+ghost use Rattle.blocks.specs.Cursor.{cursorAt, readBy, taken, skipped, unmarked, vaOf};
 use format::Refusal;
 use format::Words3;
 use format::Words4;
@@ -105,7 +108,7 @@ fn words4_at(s: &[u8], at: usize) -> Words4
 
 // 11 where the mark is set.
 fn refused_if(overrun: bool) -> CursorCheck
-    ensures answer { λ r. ⌜ r ≡ markedCheck overrun ⌝ }
+    ensures answer { λ r. ⌜ checkOf r ≡ need 11 (not overrun) ⌝ }
 {
     if overrun {
         return CursorCheck::Refused(Refusal::PastTheEnd);
@@ -246,7 +249,7 @@ impl<'a> Cursor<'a> {
 
     // 11 where a read so far ran past the end.
     pub fn check(self) -> CursorCheck
-        ensures answer { λ r. ⌜ r ≡ markedCheck (self .entry .overrun) ⌝ }
+        ensures answer { λ r. ⌜ checkOf r ≡ unmarked (self .entry) ⌝ }
     {
         refused_if(self.overrun)
     }

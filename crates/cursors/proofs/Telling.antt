@@ -7,12 +7,13 @@ use borrow.Author.Tests.{le-leb, lt-leb}
 use lib.ListN.{length}
 use lib.Seq.{sets}
 use Rattle.format.specs.Field.{whichList}
+use Rattle.blocks.specs.Cursor.{checkOf}
 use Rattle.cursors.specs.Turns.{statusOf, numbersOf, fit, told}
 use Rattle.cursors.specs.declared.Turns.{Turns}
 
-pub none-fit : (t : Turns) (d : List ℕ) → length d < 15 → (false ≡ fit d) × (d ≡ told t d)
+pub none-fit : (l d : List ℕ) → length d < 15 → (false ≡ fit d) × (d ≡ told l d)
 unfolding told whichList
-none-fit t d h = (sym (lt-leb 15 (length d) h), rw (lt-leb 15 (length d) h) refl)
+none-fit l d h = (sym (lt-leb 15 (length d) h), rw (lt-leb 15 (length d) h) refl)
 
 -- the numbers of t, the status u last
 abbrev pub front : Turns → ℕ → List ℕ
@@ -23,11 +24,11 @@ front t u =
     t .va ∷ u ∷ []
 
 pub all-fit :
-    {t t′ : Turns} {u : ℕ} (d : List ℕ) → 15 ≤ length d → t ≡ t′ → u ≡ statusOf (t .checked) →
-    (true ≡ fit d) × (sets d 0 (front t u) ≡ told t′ d)
+    (t : Turns) {l : List ℕ} {u : ℕ} (d : List ℕ) → 15 ≤ length d → numbersOf t ≡ l → u ≡ statusOf (checkOf (t .checked)) →
+    (true ≡ fit d) × (sets d 0 (front t u) ≡ told l d)
 unfolding told whichList numbersOf
-all-fit {t} d h e f = (
+all-fit t d h e f = (
   sym (le-leb 15 (length d) h),
   rw (le-leb 15 (length d) h)
-      (ap (λ (u : ℕ). sets d 0 (front t u)) f ∙ ap (λ (t : Turns). sets d 0 (numbersOf t)) e),
+      (ap (λ (u : ℕ). sets d 0 (front t u)) f ∙ ap (sets d 0) e),
 )

@@ -6,13 +6,18 @@ use lib.Dec.{leb}
 use lib.ListN.{length}
 use lib.Seq.{sets}
 use denote.Ref.{RefT}
+use Rattle.format.specs.Result.{Res, refused, done}
 use Rattle.format.specs.Field.{fieldAt, whichList}
-use Rattle.format.specs.Refusal.{number}
-use Rattle.blocks.specs.Cursor.{words3At, words4At, markedCheck, cursorAt, readBy, taken, skipped, vaOf}
+use Rattle.format.specs.declared.Words3.{Words3}
+use Rattle.format.specs.declared.Words4.{Words4}
+use Rattle.blocks.specs.Cursor.{words3At, words4At, checkOf, cursorAt, readBy, taken, skipped, unmarked, vaOf}
 use Rattle.blocks.specs.declared.cursor.Cursor.{Cursor}
-use Rattle.blocks.specs.declared.cursor.CursorCheck.{CursorCheck}
-use Rattle.blocks.specs.declared.cursor.CursorCheck.the-variants.{Within, Refused}
 use Rattle.cursors.specs.declared.Turns.{Turns}
+
+-- 0, or the refusal's number
+abbrev pub statusOf : Res (Unit {0}) → ℕ
+statusOf (done u) = 0
+statusOf (refused c) = c
 
 -- the cursor before each read, in the order of the reads
 module _ (s : RefT (List ℕ)) (pos base n : ℕ) where
@@ -37,8 +42,14 @@ module _ (s : RefT (List ℕ)) (pos base n : ℕ) where
   abbrev pub threeFrom : Cursor
   threeFrom = taken 4 floatAt
 
+  abbrev three : Words3
+  three = readBy words3At threeFrom
+
   abbrev pub fourAt : Cursor
   fourAt = taken 12 threeFrom
+
+  abbrev four : Words4
+  four = readBy words4At fourAt
 
   abbrev pub skipAt : Cursor
   skipAt = taken 16 fourAt
@@ -46,40 +57,28 @@ module _ (s : RefT (List ℕ)) (pos base n : ℕ) where
   abbrev pub lastAt : Cursor
   lastAt = skipped n skipAt
 
-  unfoldable pub inTurn : Turns
+  -- the numbers in the order of the reads, then the address and the status
+  unfoldable pub inTurn : List ℕ
   inTurn =
-      record {
-        byte = readBy (fieldAt 1) byteAt;
-        half = readBy (fieldAt 2) halfAt;
-        signed = readBy (fieldAt 2) signedAt;
-        word = readBy (fieldAt 4) wordAt;
-        long = readBy (fieldAt 8) longAt;
-        float = readBy (fieldAt 4) floatAt;
-        three = readBy words3At threeFrom;
-        four = readBy words4At fourAt;
-        va = vaOf lastAt;
-        checked = markedCheck (lastAt .overrun);
-      }
+      readBy (fieldAt 1) byteAt ∷ readBy (fieldAt 2) halfAt ∷ readBy (fieldAt 2) signedAt ∷
+      readBy (fieldAt 4) wordAt ∷ readBy (fieldAt 8) longAt ∷ readBy (fieldAt 4) floatAt ∷
+      three .x ∷ three .y ∷ three .z ∷
+      four .x ∷ four .y ∷ four .z ∷ four .w ∷
+      vaOf lastAt ∷
+      statusOf (unmarked lastAt) ∷ []
 
--- ---- as numbers
-
--- 0, or the refusal's number
-abbrev pub statusOf : CursorCheck → ℕ
-statusOf Within = 0
-statusOf (Refused x) = number x
-
--- the numbers in the order of the reads, then the address and the status
+-- the numbers of the code's answer
 unfoldable pub numbersOf : Turns → List ℕ
 numbersOf t =
     t .byte ∷ t .half ∷ t .signed ∷ t .word ∷ t .long ∷ t .float ∷
     t .three .x ∷ t .three .y ∷ t .three .z ∷
     t .four .x ∷ t .four .y ∷ t .four .z ∷ t .four .w ∷
-    t .va ∷ statusOf (t .checked) ∷ []
+    t .va ∷ statusOf (checkOf (t .checked)) ∷ []
 
--- whether they fit in a lent slice
+-- whether the numbers fit in a lent slice
 abbrev pub fit : List ℕ → Bool
 fit d = leb 15 (length d)
 
 -- the slice with the numbers at its front, or as it was where they do not fit
-unfoldable pub told : Turns → List ℕ → List ℕ
-told t d = whichList (fit d) (sets d 0 (numbersOf t)) d
+unfoldable pub told : List ℕ → List ℕ → List ℕ
+told l d = whichList (fit d) (sets d 0 l) d

@@ -1,6 +1,7 @@
 // Each method of a cursor in turn, over plain parameters: what the run against the Rust calls (`Cursor` of `src/blocks/mod.rs`).
 ghost use mathlib.Core.Path.{_≡_};
-ghost use Rattle.cursors.specs.Turns.{inTurn, statusOf, fit, told};
+ghost use Rattle.blocks.specs.Cursor.{checkOf};
+ghost use Rattle.cursors.specs.Turns.{inTurn, statusOf, numbersOf, fit, told};
 use blocks::cursor::Cursor;
 use blocks::cursor::CursorCheck;
 use format::Words3;
@@ -22,7 +23,7 @@ pub struct Turns {
 
 // A cursor over the section s at a position: each read in turn, then a skip of n bytes, so that a skip that marked would be seen.
 pub fn in_turn(s: &[u8], pos: usize, base: u64, n: usize) -> Turns
-    ensures answer { λ r. ⌜ r ≡ inTurn (s .entry) pos base n ⌝ }
+    ensures answer { λ r. ⌜ numbersOf r ≡ inTurn (s .entry) pos base n ⌝ }
 {
     let mut c = Cursor::new(s, pos, base);
     let byte = c.u8();
@@ -53,7 +54,7 @@ pub const NUMBERS: usize = 15;
 
 // The status that C and Rust are told: 0, or the refusal's number.
 fn status(c: CursorCheck) -> u64
-    ensures { λ r. ⌜ r ≡ statusOf c ⌝ }
+    ensures { λ r. ⌜ r ≡ statusOf (checkOf c) ⌝ }
 {
     match c {
         CursorCheck::Within => 0,

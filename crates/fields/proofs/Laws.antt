@@ -17,7 +17,7 @@ use lib.ListN.{length, getD, take, drop, length-drop}
 use lib.Seq.{sets, length-sets, drop-cons, drop-drop, take-add, getD-drop, length-take-le}
 use Rattle.format.specs.Field.{valueOf, field, bytes, stands, orZero, fieldAt, whichList, putAt}
 use Rattle.fields.specs.declared.Placed.the-variants.{Stored, Outside}
-use Rattle.fields.specs.Placed.{placed}
+use Rattle.fields.specs.Placed.{placedOf}
 use Rattle.format.proofs.Fields.{length-bytes, bytes-add, bytes-mod, pow-pos, valueOf-append, valueOf-lt, valueOf-bytes, bytes-valueOf}
 use Rattle.fields.proofs.Stores.{sets-append, part-sets-same, sets-part, part-sets-other}
 
@@ -157,16 +157,9 @@ module _ (k : ℕ) (s : List ℕ) (at : ℕ) {t : Bool} (test : t ≡ stands k s
   load-outside e = sym (fieldAt-outside k s at (leb-false (at + k) (length s) (sym test ∙ e)))
 
   pub store-inside :
-      {x : List ℕ} (v : ℕ) → t ≡ true → x ≡ sets s at (bytes k v) → (Stored ≡ placed (stands k s at)) × (x ≡ putAt k s at v)
-  store-inside v e f = (ap placed (sym e ∙ test), f ∙ sym (putAt-stands k s at v (test-true e)))
+      {x : List ℕ} (v : ℕ) → t ≡ true → x ≡ sets s at (bytes k v) → (placedOf Stored ≡ stands k s at) × (x ≡ putAt k s at v)
+  store-inside v e f = (sym e ∙ test, f ∙ sym (putAt-stands k s at v (test-true e)))
 
-  pub store-outside : (v : ℕ) → t ≡ false → (Outside ≡ placed (stands k s at)) × (s ≡ putAt k s at v)
+  pub store-outside : (v : ℕ) → t ≡ false → (placedOf Outside ≡ stands k s at) × (s ≡ putAt k s at v)
   store-outside v e =
-      (ap placed (sym e ∙ test), sym (putAt-outside k s at v (leb-false (at + k) (length s) (sym test ∙ e))))
-
--- the answer tells whether the field stands
-pub placed-inj : (a b : Bool) → placed a ≡ placed b → a ≡ b
-placed-inj true true e = refl
-placed-inj true false e = cc
-placed-inj false true e = cc
-placed-inj false false e = refl
+      (sym e ∙ test, sym (putAt-outside k s at v (leb-false (at + k) (length s) (sym test ∙ e))))

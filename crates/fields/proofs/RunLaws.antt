@@ -14,7 +14,7 @@ use lib.ListN.{length, getD, take, drop, set, length-append, drop-of-length-le, 
 use lib.Seq.{take-add, take-all, getD-take, getD-drop, drop-cons, drop-drop, sets, length-sets, length-take-le}
 use Rattle.format.specs.Field.{fieldAt, stands, whichList, words, bytes, wordBytes}
 use Rattle.format.proofs.Fields.{length-bytes}
-use Rattle.fields.specs.Placed.{placed}
+use Rattle.fields.specs.Placed.{placedOf}
 use Rattle.fields.specs.Runs.{loads, loaded, stores, stored, copies, copied}
 use Rattle.fields.specs.declared.Placed.the-variants.{Stored, Outside}
 use Rattle.fields.proofs.Stores.{sets-append, part-sets-same}
@@ -182,26 +182,26 @@ run-of-one n len at e = sym (rw (one-mul n) at e)
 
 -- two tests b and c, of p and q; x is stored where both hold
 module _ (p q : Bool) (x t : List ℕ) {b : Bool} (e : p ≡ b) where
-  pub first-off : not b ≡ true → (Outside ≡ placed (p && q)) × (t ≡ whichList (p && q) x t)
+  pub first-off : not b ≡ true → (placedOf Outside ≡ p && q) × (t ≡ whichList (p && q) x t)
   unfolding whichList
   first-off h = rw (e ∙ not-true b h) (refl, refl)
 
   module _ {c : Bool} (f : q ≡ c) (h : not b ≡ false) where
-    pub second-off : not c ≡ true → (Outside ≡ placed (p && q)) × (t ≡ whichList (p && q) x t)
+    pub second-off : not c ≡ true → (placedOf Outside ≡ p && q) × (t ≡ whichList (p && q) x t)
     unfolding whichList
     second-off l = rw (e ∙ not-false b h, f ∙ not-true c l) (refl, refl)
 
-    pub both-on : {t′ : List ℕ} → not c ≡ false → t′ ≡ x → (Stored ≡ placed (p && q)) × (t′ ≡ whichList (p && q) x t)
+    pub both-on : {t′ : List ℕ} → not c ≡ false → t′ ≡ x → (placedOf Stored ≡ p && q) × (t′ ≡ whichList (p && q) x t)
     unfolding whichList
     both-on l g = rw (e ∙ not-false b h, f ∙ not-false c l) (refl, g)
 
 -- one test b of p
 module _ (p : Bool) (x t : List ℕ) {b : Bool} (e : p ≡ b) where
-  pub one-off : not b ≡ true → (Outside ≡ placed p) × (t ≡ whichList p x t)
+  pub one-off : not b ≡ true → (placedOf Outside ≡ p) × (t ≡ whichList p x t)
   unfolding whichList
   one-off h = rw (e ∙ not-true b h) (refl, refl)
 
-  pub one-on : {t′ : List ℕ} → not b ≡ false → t′ ≡ x → (Stored ≡ placed p) × (t′ ≡ whichList p x t)
+  pub one-on : {t′ : List ℕ} → not b ≡ false → t′ ≡ x → (placedOf Stored ≡ p) × (t′ ≡ whichList p x t)
   unfolding whichList
   one-on h g = rw (e ∙ not-false b h) (refl, g)
 

@@ -6,7 +6,7 @@ ghost use lib.ListN.{length};
 ghost use lib.Seq.{sets};
 ghost use Rattle.format.specs.Field as Field;
 ghost use Rattle.format.specs.Field.{field, bytes, fieldAt, putAt};
-ghost use Rattle.fields.specs.Placed.{placed};
+ghost use Rattle.fields.specs.Placed.{placedOf};
 
 pub mod runs; // runs of words
 
@@ -57,7 +57,7 @@ pub fn u64_at(s: &[u8], at: usize) -> u64
 // ---- storing: the bytes of the number, or nothing where the field does not lie wholly in the slice
 
 pub fn put16(d: &mut [u8], at: usize, v: u16) -> Placed
-    ensures answer { λ r. ⌜ r ≡ placed (Field.stands 2 (now (d .entry)) at) ⌝ }
+    ensures answer { λ r. ⌜ placedOf r ≡ Field.stands 2 (now (d .entry)) at ⌝ }
     ensures slice { λ _. ⌜ now (d .exit) ≡ putAt 2 (now (d .entry)) at v ⌝ }
 {
     if stands(d, at, 2) {
@@ -68,7 +68,7 @@ pub fn put16(d: &mut [u8], at: usize, v: u16) -> Placed
 }
 
 pub fn put32(d: &mut [u8], at: usize, v: u32) -> Placed
-    ensures answer { λ r. ⌜ r ≡ placed (Field.stands 4 (now (d .entry)) at) ⌝ }
+    ensures answer { λ r. ⌜ placedOf r ≡ Field.stands 4 (now (d .entry)) at ⌝ }
     ensures slice { λ _. ⌜ now (d .exit) ≡ putAt 4 (now (d .entry)) at v ⌝ }
 {
     if stands(d, at, 4) {
@@ -79,7 +79,7 @@ pub fn put32(d: &mut [u8], at: usize, v: u32) -> Placed
 }
 
 pub fn put64(d: &mut [u8], at: usize, v: u64) -> Placed
-    ensures answer { λ r. ⌜ r ≡ placed (Field.stands 8 (now (d .entry)) at) ⌝ }
+    ensures answer { λ r. ⌜ placedOf r ≡ Field.stands 8 (now (d .entry)) at ⌝ }
     ensures slice { λ _. ⌜ now (d .exit) ≡ putAt 8 (now (d .entry)) at v ⌝ }
 {
     if stands(d, at, 8) {

@@ -6,7 +6,7 @@ ghost use lib.Dec.{leb};
 ghost use lib.ListN.{length, take, drop};
 ghost use lib.Seq.{sets};
 ghost use Rattle.format.specs.Field.{words, wordBytes};
-ghost use Rattle.fields.specs.Placed.{placed};
+ghost use Rattle.fields.specs.Placed.{placedOf};
 ghost use Rattle.fields.specs.Runs.{loads, loaded, stores, stored, copies, copied};
 use crate::Placed;
 use crate::store16;
@@ -26,7 +26,7 @@ fn run_stands(len: usize, at: usize, size: usize, n: usize) -> bool
 
 // n words of 32 bits that stand in `s` from `from` on, stored in the table from `to` on.
 pub fn load_words(s: &[u8], from: usize, n: usize, t: &mut [u32], to: usize) -> Placed
-    ensures answer { λ r. ⌜ r ≡ placed (loads 4 n (now (s .entry)) from (now (t .entry)) to) ⌝ }
+    ensures answer { λ r. ⌜ placedOf r ≡ loads 4 n (now (s .entry)) from (now (t .entry)) to ⌝ }
     ensures table { λ _. ⌜ now (t .exit) ≡ loaded 4 n (now (s .entry)) from (now (t .entry)) to ⌝ }
 {
     if !run_stands(s.len(), from, 4, n) {
@@ -41,7 +41,7 @@ pub fn load_words(s: &[u8], from: usize, n: usize, t: &mut [u32], to: usize) -> 
 
 // The same of 16 bits.
 pub fn load_halves(s: &[u8], from: usize, n: usize, t: &mut [u16], to: usize) -> Placed
-    ensures answer { λ r. ⌜ r ≡ placed (loads 2 n (now (s .entry)) from (now (t .entry)) to) ⌝ }
+    ensures answer { λ r. ⌜ placedOf r ≡ loads 2 n (now (s .entry)) from (now (t .entry)) to ⌝ }
     ensures table { λ _. ⌜ now (t .exit) ≡ loaded 2 n (now (s .entry)) from (now (t .entry)) to ⌝ }
 {
     if !run_stands(s.len(), from, 2, n) {
@@ -58,7 +58,7 @@ pub fn load_halves(s: &[u8], from: usize, n: usize, t: &mut [u16], to: usize) ->
 
 // The words of `w`, four bytes for each, from `at` on.
 pub fn put_words(d: &mut [u8], at: usize, w: &[u32]) -> Placed
-    ensures answer { λ r. ⌜ r ≡ placed (stores 4 (now (w .entry)) (now (d .entry)) at) ⌝ }
+    ensures answer { λ r. ⌜ placedOf r ≡ stores 4 (now (w .entry)) (now (d .entry)) at ⌝ }
     ensures bytes { λ _. ⌜ now (d .exit) ≡ stored 4 (now (w .entry)) (now (d .entry)) at ⌝ }
 {
     if !run_stands(d.len(), at, 4, w.len()) {
@@ -70,7 +70,7 @@ pub fn put_words(d: &mut [u8], at: usize, w: &[u32]) -> Placed
 
 // The numbers of `h`, two bytes for each, from `at` on.
 pub fn put_halves(d: &mut [u8], at: usize, h: &[u16]) -> Placed
-    ensures answer { λ r. ⌜ r ≡ placed (stores 2 (now (h .entry)) (now (d .entry)) at) ⌝ }
+    ensures answer { λ r. ⌜ placedOf r ≡ stores 2 (now (h .entry)) (now (d .entry)) at ⌝ }
     ensures bytes { λ _. ⌜ now (d .exit) ≡ stored 2 (now (h .entry)) (now (d .entry)) at ⌝ }
 {
     if !run_stands(d.len(), at, 2, h.len()) {
@@ -84,7 +84,7 @@ pub fn put_halves(d: &mut [u8], at: usize, h: &[u16]) -> Placed
 
 // n words of `s` from `from` on, stored in the table from `to` on.
 pub fn copy_words(s: &[u32], from: usize, n: usize, t: &mut [u32], to: usize) -> Placed
-    ensures answer { λ r. ⌜ r ≡ placed (copies n (now (s .entry)) from (now (t .entry)) to) ⌝ }
+    ensures answer { λ r. ⌜ placedOf r ≡ copies n (now (s .entry)) from (now (t .entry)) to ⌝ }
     ensures table { λ _. ⌜ now (t .exit) ≡ copied n (now (s .entry)) from (now (t .entry)) to ⌝ }
 {
     if !run_stands(s.len(), from, 1, n) {
@@ -99,7 +99,7 @@ pub fn copy_words(s: &[u32], from: usize, n: usize, t: &mut [u32], to: usize) ->
 
 // The same of 16 bits.
 pub fn copy_halves(s: &[u16], from: usize, n: usize, t: &mut [u16], to: usize) -> Placed
-    ensures answer { λ r. ⌜ r ≡ placed (copies n (now (s .entry)) from (now (t .entry)) to) ⌝ }
+    ensures answer { λ r. ⌜ placedOf r ≡ copies n (now (s .entry)) from (now (t .entry)) to ⌝ }
     ensures table { λ _. ⌜ now (t .exit) ≡ copied n (now (s .entry)) from (now (t .entry)) to ⌝ }
 {
     if !run_stands(s.len(), from, 1, n) {

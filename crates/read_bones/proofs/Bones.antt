@@ -8,7 +8,7 @@ use native.Mathlib.Omega.{arith}
 use borrow.Author.Tests.{eqb-true, lt-ltb, le-ltb}
 use lib.Dec.{eqb}
 use lib.ListN.{length, take, drop, length-append, length-take, length-drop}
-use Rattle.format.specs.Result.{refused, done}
+use Rattle.format.specs.Result.{refused, done, need}
 use Rattle.format.specs.Refusal.{number}
 use Rattle.format.specs.declared.Refusal.{Refusal}
 use Rattle.format.specs.declared.Refusal.the-variants.{TableTooShort}
@@ -34,7 +34,7 @@ use Rattle.blocks.specs.declared.pool.Stored.the-variants.{Done, Full}
 use Rattle.blocks.proofs.Standing.{bytesAt, part-standing, standing-done}
 use Rattle.blocks.proofs.Storing.{after, put-fits, put-done, tables-done, tables-full}
 use Rattle.rows.specs.Row.{hasRow, putRow}
-use Rattle.rows.specs.Value.{meantBone, storedIf}
+use Rattle.rows.specs.Value.{meantBone, storedOf}
 use Rattle.rows.specs.declared.Bone.{Bone}
 use Rattle.rows.specs.declared.RowStored.{RowStored}
 use Rattle.rows.specs.declared.RowStored.the-variants.{Done as row-done, NoRoom}
@@ -73,13 +73,14 @@ row-of-bytes b n e = rw e refl
 
 -- ---- a bone that was not read before
 
-stored-not : (q : Bool) → storedIf q ≡ NoRoom → q ≡ false
-stored-not true e = let z : _≡_ {A = ℕ} 0 1 = cc in absurd (omega arith)
-stored-not false e = refl
+-- what the answer x of `put_bone` tells of the test q
+stored-not : (q : Bool) {x : RowStored} → storedOf x ≡ need 1 q → x ≡ NoRoom → q ≡ false
+stored-not true e f = let g = sym (ap storedOf f) ∙ e in let z : _≡_ {A = ℕ} 0 1 = cc in absurd (omega arith)
+stored-not false e f = refl
 
-pub stored-is : (q : Bool) → storedIf q ≡ row-done → q ≡ true
-stored-is true e = refl
-stored-is false e = let z : _≡_ {A = ℕ} 0 1 = cc in absurd (omega arith)
+pub stored-is : (q : Bool) {x : RowStored} → storedOf x ≡ need 1 q → x ≡ row-done → q ≡ true
+stored-is true e f = refl
+stored-is false e f = let g = sym (ap storedOf f) ∙ e in let z : _≡_ {A = ℕ} 0 1 = cc in absurd (omega arith)
 
 row-as : {i j : ℕ} (t : Tables) → i ≡ j → _≡_ {A = Step ℕ} (done (i, t)) (done (j, t))
 row-as t e = ap (λ (k : ℕ). done (k, t)) e
@@ -126,14 +127,14 @@ module _
           let d = named room t at h s in
           subst (λ (y : Named). NameTable y (room .pool) at (d .after) p₁) f (d .table)
 
-      module _ {x : RowStored} (ex : x ≡ storedIf (hasRow b₀ used)) where
+      module _ {x : RowStored} (ex : storedOf x ≡ need 1 (hasRow b₀ used)) where
         pub bone-no-room : (b : List ℕ) → x ≡ NoRoom → BoneFrom sec bytes va used (Refused TableTooShort) b₀ b p₀ p₁
         unfolding boneFrom
         bone-no-room b g =
             record {
               reads =
                   λ room t at h s.
-                  let l = lacks-row-le b₀ used (stored-not (hasRow b₀ used) (sym ex ∙ g)) in
+                  let l = lacks-row-le b₀ used (stored-not (hasRow b₀ used) ex g) in
                   let k : room .bones ≤ length t.bones = omega (arith, h .count, h .lent .rows .size) in
                   record {
                     bones = t.bones;
@@ -146,7 +147,7 @@ module _
         module _ (g : x ≡ row-done) {s : Stored} {p : List ℕ} (w : Stores (poolRow va bone used 1) s p₁ p) where
           room-left : (room : Room) (t : Tables) (at : ℕ) → Before room t at used b₀ p₀ → length t.bones < room .bones
           room-left room t at h =
-              let l = has-row-lt b₀ used (stored-is (hasRow b₀ used) (sym ex ∙ g)) in
+              let l = has-row-lt b₀ used (stored-is (hasRow b₀ used) ex g) in
               omega (arith, h .count, h .lent .rows .size)
 
           pub bone-full : (b : List ℕ) → s ≡ Full → BoneFrom sec bytes va used (Refused TableTooShort) b₀ b p₀ p
@@ -192,7 +193,7 @@ module _
                       (ey ∙ row-of-bytes bytes pl (stands .0))
                       in
                       let has : hasRow b₀ (length t.bones) ≡ true =
-                      ap (λ (k : ℕ). hasRow b₀ k) (sym (h .count)) ∙ stored-is (hasRow b₀ used) (sym ex ∙ g)
+                      ap (λ (k : ℕ). hasRow b₀ k) (sym (h .count)) ∙ stored-is (hasRow b₀ used) ex g
                       in
                       record {
                         bones = t.bones ++ (new ∷ []);

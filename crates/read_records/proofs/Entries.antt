@@ -15,16 +15,18 @@ use lib.Seq.{drop-drop, length-take-le}
 use Rattle.format.specs.Result.{Res, refused, done, _>>=_, need}
 use Rattle.format.specs.Refusal.{number}
 use Rattle.format.specs.declared.Refusal.{Refusal}
-use Rattle.format.specs.Field.{valueOf, field, orZero}
+use Rattle.format.specs.Field.{valueOf, field, orZero, fieldAt}
 use Rattle.format.specs.Section.{Section, Spot, part}
 use Rattle.format.proofs.Fields.{field-within}
-use Rattle.blocks.specs.Cursor.{saturatingAdd, afterRead}
+use Rattle.blocks.specs.Cursor.{saturatingAdd, afterRead, checkOf, cursorAt, readBy, taken, unmarked}
+use Rattle.blocks.specs.declared.cursor.CursorCheck.{CursorCheck}
 use Rattle.blocks.specs.Places.{spotIn, spotOf, Locates}
 use Rattle.blocks.specs.declared.places.Located.{Located}
 use Rattle.blocks.specs.declared.places.Located.the-variants.{System, Graphics, Refused}
 use Rattle.blocks.proofs.Search.{le-or-lt}
 use Rattle.blocks.proofs.Standing.{standing-done, refused-part}
-use Rattle.read_records.specs.Entry.{entryIn, entryRead, fieldsOf, entryAt, meantFields}
+use Rattle.read_records.specs.Entry.{entryIn, ReadsEntry, fieldsOf, entryAt}
+use Rattle.read_records.specs.declared.entry.Read.{Read}
 use Rattle.read_records.specs.declared.entry.Entry.{Entry}
 
 -- ---- fields
@@ -63,10 +65,27 @@ entry-part half o = by (leb (o + 16) (length half)) refl
 
 -- ---- what a cursor reads, with its check
 
--- it saturates only where no field stands
-pub entry-read : (s : RefT (List ℕ)) (o b : ℕ) → length (now s) < 2 ^ 64 → meantFields (fieldsOf (entryRead s o b)) ≡ entryFrom (now s) o
-unfolding entryRead afterRead orZero
-entry-read s o b room =
+-- the fields by the check's answer
+pub fields-checked :
+    (r : Read) {t : CursorCheck} → r .checked ≡ t →
+    fieldsOf r ≡ (checkOf t >>= λ u. done (record { tag = r .tag; position = r .position; next = r .next }))
+unfolding fieldsOf
+fields-checked r e = rw e refl
+
+-- what a cursor at an offset reads, or 11 where it runs past the end: it saturates only where no field stands
+from-offset :
+    (s : RefT (List ℕ)) (o b : ℕ) → length (now s) < 2 ^ 64 →
+    (let c = cursorAt s o b in
+    unmarked (taken 8 (taken 4 (taken 4 c))) >>= λ u.
+    done
+    (record {
+      tag = readBy (fieldAt 4) c;
+      position = readBy (fieldAt 4) (taken 4 c);
+      next = readBy (fieldAt 8) (taken 4 (taken 4 c));
+    })) ≡
+    entryFrom (now s) o
+unfolding afterRead orZero
+from-offset s o b room =
     let half : List ℕ = now s in
     ⊎-elim
     (λ (h : o + 16 ≤ length half).
@@ -80,6 +99,11 @@ entry-read s o b room =
     let t : leb (saturatingAdd (saturatingAdd o 4) 4 + 8) (length half) ≡ false = lt-leb _ (length half) (omega arith) in
     simp (t, or-true, lt-leb (o + 16) (length half) h))
     (le-or-lt (o + 16) (length half))
+
+pub entry-read :
+    {s : RefT (List ℕ)} {o b : ℕ} {r : Read} → length (now s) < 2 ^ 64 → ReadsEntry (cursorAt s o b) r → fieldsOf r ≡ entryFrom (now s) o
+unfolding fieldsOf
+entry-read {s} {o} {b} room h = rw (h .tag, h .position, h .next, h .checked) (from-offset s o b room)
 
 -- ---- the ways out of `entry_at`: where the bytes stand, and then the reads
 

@@ -1,7 +1,8 @@
 // A tag entry: the fields of its 16 bytes (docs/FORMAT.md, "Records").
 ghost use mathlib.Core.Path.{_≡_};
+ghost use Rattle.blocks.specs.Cursor.{cursorAt};
 ghost use Rattle.blocks.specs.Places.{section};
-ghost use Rattle.read_records.specs.Entry.{entryAt, entryRead, fieldsOf, meantFields};
+ghost use Rattle.read_records.specs.Entry.{entryAt, ReadsEntry, fieldsOf, meantFields};
 use blocks::cursor::Cursor;
 use blocks::cursor::CursorCheck;
 use blocks::places;
@@ -32,7 +33,7 @@ struct Read {
 
 // The reads of the entry at an offset of a half, by a cursor.
 fn read_entry(half: &[u8], at: usize, base: u64) -> Read
-    ensures { λ r. ⌜ r ≡ entryRead (half .entry) at base ⌝ }
+    ensures { λ r. ⌜ ReadsEntry (cursorAt (half .entry) at base) r ⌝ }
 {
     let mut c = Cursor::new(half, at, base);
     let tag = c.u32();
@@ -48,7 +49,7 @@ fn read_entry(half: &[u8], at: usize, base: u64) -> Read
 
 // The fields that were read, or what the check of the cursor refuses.
 fn fields_of(r: Read) -> Fields
-    ensures { λ f. ⌜ f ≡ fieldsOf r ⌝ }
+    ensures { λ f. ⌜ meantFields f ≡ fieldsOf r ⌝ }
 {
     let checked = r.checked;
     match checked {

@@ -1,7 +1,7 @@
 // What C and Rust call to read and store little-endian fields in a lent slice (docs/FORMAT.md, "Finding bytes").
 ghost use mathlib.Core.Path.{_≡_};
 ghost use Rattle.format.specs.Field.{stands, fieldAt, putAt};
-ghost use Rattle.fields.specs.Placed.{placed};
+ghost use Rattle.fields.specs.Placed.{placedOf};
 
 // ---- reading: the number, or 0 where the field does not lie wholly in the slice
 
@@ -54,7 +54,7 @@ pub extern "C" fn rig_put64(d: &mut [u8], at: usize, v: u64) -> bool
 
 // An enum is no type of C: `true` is Stored.
 fn stored(p: fields::Placed) -> bool
-    ensures { λ r. ⌜ p ≡ placed r ⌝ }
+    ensures { λ r. ⌜ r ≡ placedOf p ⌝ }
 {
     match p {
         fields::Placed::Stored => true,

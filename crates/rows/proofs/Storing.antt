@@ -7,13 +7,14 @@ use mathlib.Core.List.{List, [], _∷_}
 use lib.ListN.{length}
 use lib.Seq.{sets}
 use borrow.Author.Tests.{le-leb, lt-leb}
+use Rattle.format.specs.Result.{need}
 use Rattle.format.specs.Section as section
 use Rattle.format.specs.Bone as format
 use Rattle.format.specs.Rows.{pair, boneWidth, boneWords, placeOf}
 use Rattle.fields.specs.Runs.{copied}
 use Rattle.fields.proofs.RunLaws.{copied-whole}
 use Rattle.rows.specs.Row.{hasRow, putRow}
-use Rattle.rows.specs.Value.{ourPlace, meantBone, storedIf}
+use Rattle.rows.specs.Value.{ourPlace, meantBone, storedOf}
 use Rattle.rows.specs.declared.Bone.{Bone}
 use Rattle.format.specs.declared.Place.{Place}
 use Rattle.rows.specs.declared.RowStored.the-variants.{Done, NoRoom}
@@ -50,12 +51,12 @@ module _ (t : List ℕ) (p : ℕ) (b : format.Bone section.Place) where
   put-no-row e = rw e
 
   -- the two ways out of `put_bone`
-  pub put-refused : length t / boneWidth ≤ p → (NoRoom ≡ storedIf (hasRow t p)) × (t ≡ putRow t p b)
-  put-refused h = let e = lacks-row t p h in (sym (ap storedIf e), sym (put-no-row e))
+  pub put-refused : length t / boneWidth ≤ p → (storedOf NoRoom ≡ need 1 (hasRow t p)) × (t ≡ putRow t p b)
+  put-refused h = let e = lacks-row t p h in (sym (ap (need 1) e), sym (put-no-row e))
 
   pub put-done :
       {w t′ : List ℕ} → p < length t / boneWidth → length w ≡ boneWidth → w ≡ boneWords b → t′ ≡ copied boneWidth w 0 t (boneWidth * p)
-      → (Done ≡ storedIf (hasRow t p)) × (t′ ≡ putRow t p b)
+      → (storedOf Done ≡ need 1 (hasRow t p)) × (t′ ≡ putRow t p b)
   put-done {w} h n ew et =
       let e = has-row t p h in
-      (sym (ap storedIf e), et ∙ copied-whole boneWidth w t (boneWidth * p) n (omega arith) ∙ rw ew (sym (put-row e)))
+      (sym (ap (need 1) e), et ∙ copied-whole boneWidth w t (boneWidth * p) n (omega arith) ∙ rw ew (sym (put-row e)))

@@ -1,11 +1,11 @@
 -- The structs of the code and the records of `format` that they stand for: `our..` from the format, `meant..` to it.
 -- Definitions only.
-use mathlib.Core.Bool.{Bool, true, false}
 use mathlib.Core.Option.{Option, none, some}
 use Rattle.math.specs.Word.{floatOf}
 use Rattle.math.specs.Vector.{vec3, vec4}
 use Rattle.math.specs.declared.Vec3.{Vec3}
 use Rattle.math.specs.declared.Vec4.{Vec4}
+use Rattle.format.specs.Result.{Res, refused, done}
 use Rattle.format.specs.Section as section
 use Rattle.format.specs.Bone as format
 use Rattle.format.specs.Rows.{placeOf}
@@ -64,6 +64,7 @@ vec4Of v = vec4 (floatOf (v .x)) (floatOf (v .y)) (floatOf (v .z)) (floatOf (v .
 
 -- ---- answers
 
-abbrev pub storedIf : Bool → RowStored
-storedIf true = Done
-storedIf false = NoRoom
+-- whether a row is stored, or the refusal's number
+abbrev pub storedOf : RowStored → Res (Unit {0})
+storedOf Done = done tt
+storedOf NoRoom = refused 1

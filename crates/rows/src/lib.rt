@@ -13,9 +13,10 @@ ghost use Prim.Native.Nat.{_+_, _*_, _/_, _%_, _^_, _≤_};
 ghost use lib.ListN.{length, getD};
 ghost use lib.Seq.{sets};
 ghost use Rattle.math.specs.Word.{floatOf};
+ghost use Rattle.format.specs.Result.{need};
 ghost use Rattle.format.specs.Rows.{pair, lower, upper, boneWidth, boneWords, placeOf};
 ghost use Rattle.rows.specs.Row.{rowWords, rowAt, words3From, words4From, hasRow, putRow};
-ghost use Rattle.rows.specs.Value.{ourPlace, ourBone, meantBone, vec3Of, vec4Of, storedIf};
+ghost use Rattle.rows.specs.Value.{ourPlace, ourBone, meantBone, vec3Of, vec4Of, storedOf};
 ghost use Rattle.format.specs.Words.{ourWords3, ourWords4};
 
 // A bone as its row holds it. Signed 16-bit numbers are their patterns, negative from 32768 on.
@@ -276,7 +277,7 @@ fn bone_words(b: Bone) -> [u32; 21]
 
 // Stores the bone as row p, the free half of word 12 as 0. Where the row does not lie in the table, the table stays as it was.
 pub fn put_bone(t: &mut [u32], p: usize, b: Bone) -> RowStored
-    ensures answer { λ r. ⌜ r ≡ storedIf (hasRow (now (t .entry)) p) ⌝ }
+    ensures answer { λ r. ⌜ storedOf r ≡ need 1 (hasRow (now (t .entry)) p) ⌝ }
     ensures rows { λ _. ⌜ now (t .exit) ≡ putRow (now (t .entry)) p (meantBone b) ⌝ }
 {
     if p >= t.len() / BONE_WORDS {

@@ -52,7 +52,7 @@ use Rattle.format.proofs.Words3 as N3
 use Rattle.format.proofs.Words3.Laws as N3′
 use Rattle.format.proofs.Words4 as N4
 use Rattle.format.proofs.Words4.Laws as N4′
-use Rattle.blocks.specs.Cursor.{words3At, words4At, markedCheck, readBy, taken, vaOf}
+use Rattle.blocks.specs.Cursor.{words3At, words4At, checkOf, readBy, taken, unmarked, vaOf}
 use Rattle.blocks.specs.declared.cursor.Cursor.{Cursor}
 use Rattle.blocks.specs.declared.cursor.CursorCheck.{CursorCheck}
 use Rattle.blocks.proofs.Routines.{met-by}
@@ -102,7 +102,8 @@ use Rattle.blocks.proofs.cursor.Cursor.check as check
 use Rattle.blocks.proofs.cursor.Cursor.check.Symbol as check-def
 use Rattle.blocks.proofs.cursor.Cursor.check.Symbol.{name as #check}
 use Rattle.blocks.proofs.cursor.Cursor.check.Met as check-thm
-use Rattle.cursors.specs.Turns.{byteAt, halfAt, signedAt, wordAt, skipAt, longAt, floatAt, threeFrom, fourAt, lastAt, inTurn}
+use Rattle.cursors.specs.Turns.{byteAt, halfAt, signedAt, wordAt, skipAt, longAt, floatAt, threeFrom, fourAt, lastAt}
+use Rattle.cursors.specs.Turns.{statusOf, inTurn, numbersOf}
 use Rattle.cursors.specs.declared.Turns.{Turns}
 use Rattle.cursors.proofs.Turns as N
 use Rattle.cursors.proofs.Turns.Laws as N′
@@ -244,8 +245,8 @@ module _ {M : Type 1} (𝓤 : URA M) (H : Heap 𝓤) (A : Atoms 𝓤) (W : Given
   goes-check = goes-va
 
   check-said : (t : CursorCheck) → ent 𝓤 (ensured 𝓤 H A check.ended (check.clauses 𝓤 H A at-mem run) (κ, tt) (h₉, tt) tt t)
-      (fact 𝓤 (t ≡ markedCheck (h₉ .overrun)))
-  check-said t = exE 𝓤 _ (λ ws. snd∗ 𝓤 (sem 𝓤 H A (lasts check.ended (κ, tt) (h₉, tt) ws)) (fact 𝓤 (t ≡ markedCheck (h₉ .overrun))))
+      (fact 𝓤 (checkOf t ≡ unmarked h₉))
+  check-said t = exE 𝓤 _ (λ ws. snd∗ 𝓤 (sem 𝓤 H A (lasts check.ended (κ, tt) (h₉, tt) ws)) (fact 𝓤 (checkOf t ≡ unmarked h₉)))
 
   module _ (byte half signed word long float : ℕ) (three : Words3) (four : Words4) (va : ℕ) (t : CursorCheck) where
     -- the answer, and its machine value
@@ -280,24 +281,16 @@ module _ {M : Type 1} (𝓤 : URA M) (H : Heap 𝓤) (A : Atoms 𝓤) (W : Given
 
     answer : byte ≡ readBy (fieldAt 1) h₀ → half ≡ readBy (fieldAt 2) h₁ → signed ≡ readBy (fieldAt 2) h₂ → word ≡ readBy (fieldAt 4) h₃
         → long ≡ readBy (fieldAt 8) h₄ → float ≡ readBy (fieldAt 4) h₅ → three ≡ readBy words3At h₆ → four ≡ readBy words4At h₇
-        → va ≡ vaOf h₉ → t ≡ markedCheck (h₉ .overrun) → made ≡ inTurn s o b n
-    unfolding inTurn
-    answer e₀ e₁ e₂ e₃ e₅ e₆ e₇ e₈ e₉ e₁₀ = λ i. record {
-      byte = e₀ i;
-      half = e₁ i;
-      signed = e₂ i;
-      word = e₃ i;
-      long = e₅ i;
-      float = e₆ i;
-      three = e₇ i;
-      four = e₈ i;
-      va = e₉ i;
-      checked =
-          e₁₀ i;
-    }
+        → va ≡ vaOf h₉ → checkOf t ≡ unmarked h₉ → numbersOf made ≡ inTurn s o b n
+    unfolding inTurn numbersOf
+    answer e₀ e₁ e₂ e₃ e₅ e₆ e₇ e₈ e₉ e₁₀ = λ i.
+        e₀ i ∷ e₁ i ∷ e₂ i ∷ e₃ i ∷ e₅ i ∷ e₆ i ∷
+        e₇ i .x ∷ e₇ i .y ∷ e₇ i .z ∷
+        e₈ i .x ∷ e₈ i .y ∷ e₈ i .z ∷ e₈ i .w ∷
+        e₉ i ∷ statusOf (e₁₀ i) ∷ []
 
     exits : (u : Val) → byte < 2 ^ 8 → half < 2 ^ 16 → signed < 2 ^ 16 → word < 2 ^ 32 → long < 2 ^ 64 → float < 2 ^ 32 → {y z : Val}
-        → Is N3.the-row three (y ∷ []) → Is N4.the-row four (z ∷ []) → va < 2 ^ 64 → made ≡ inTurn s o b n
+        → Is N3.the-row three (y ∷ []) → Is N4.the-row four (z ∷ []) → va < 2 ^ 64 → numbersOf made ≡ inTurn s o b n
         → ent 𝓤 (⋆ 𝓤 H A (‵ (S.the-row .own t (u ∷ [])) ∷ (‵ (flft κ q) ⊛ ‵ ftrue) ∷ ‵ Own ∷ [])) (Post (mach u))
     exits u f-byte f-half f-signed f-word f-long f-float is-three is-four f-va e =
         qed W (‵ (S.the-row .own t (u ∷ [])) ∷ (‵ (flft κ q) ⊛ ‵ ftrue) ∷ ‵ Own ∷ []) ∵
@@ -446,8 +439,8 @@ module _ {M : Type 1} (𝓤 : URA M) (H : Heap 𝓤) (A : Atoms 𝓤) (W : Given
         calls-at ! fm (Check 𝓤 H A at-mem run) known-check to-check (and-then ! (load ! (from ! (stop !)) (look ! 3 refl)) (no-more !)) (λ u.
         use1 W (later (some (λ (t : CursorCheck). ((‵ (flft κ q) ⊛ ‵ ftrue) ⊛ ‵ (S.the-row .own t (u ∷ []))) ⊛ raw
         (ensured 𝓤 H A check.ended (check.clauses 𝓤 H A at-mem run) (κ, tt) (h₉, tt) tt t)))) (id⊢ 𝓤 _) $ await ! tt $ pick ! (λ t.
-        split ! $ move ! (1 ∷ []) $ use1 W (raw (fact 𝓤 (t ≡ markedCheck (h₉ .overrun)))) (check-said t) $
-        heard ! (t ≡ markedCheck (h₉ .overrun)) (λ e-t. split ! $ move ! (1 ∷ []) $
+        split ! $ move ! (1 ∷ []) $ use1 W (raw (fact 𝓤 (checkOf t ≡ unmarked h₉))) (check-said t) $
+        heard ! (checkOf t ≡ unmarked h₉) (λ e-t. split ! $ move ! (1 ∷ []) $
         peeks ! S.the-row (Is S.the-row) (shows 𝓤 H A S.the-row) t (u ∷ []) (λ is-t.
         land ! (from ! (stop !)) (init ! 6 refl (EL.lawful S.the-type S′.the-laws 𝓤 H A W tt .typed t _ is-t .0)) $
         -- [what the verdict owns; the token; _5; what s owns; the other locals]: the answer is put together

@@ -127,7 +127,7 @@ returns-2 c =
     let turns = c .before .before .before .before .before .before .before .before .before .before .before .before .before in
     let start = c .before .before .before .before .before .before .before .before .before .before .before .before .before .before .before
     .before .before in
-    all-fit (now (start .args .out)) (turns .before .if1 .left) (turns .in-turn .ensures) (c .status .ensures)
+    all-fit (turns .in-turn .result) (now (start .args .out)) (turns .before .if1 .left) (turns .in-turn .ensures) (c .status .ensures)
 
 pub numbers-spec : {M : Type 1} → statement M
 numbers-spec =

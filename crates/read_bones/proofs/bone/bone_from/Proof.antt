@@ -1,6 +1,5 @@
 -- `read_bones::bone::bone_from` meets its contract. Assumes nothing.
 use borrow.Author.Needs.{needs}
-use mathlib.Core.Path.{sym, _∙_}
 use native.Mathlib.Omega.{arith}
 use denote.Ref.{now}
 use Rattle.rows.specs.Row.{hasRow}
@@ -61,7 +60,7 @@ add-t27 c =
     let start = past .before .before .before .before .before .before in
     let b = now (start .args .bones) in
     let u = start .args .used in
-    let has = stored-is (hasRow b u) (sym (at-put-bone .put-bone .ensures .0) ∙ at-enum-told2 .enum-told2 .given .1) in
+    let has = stored-is (hasRow b u) (at-put-bone .put-bone .ensures .0) (at-enum-told2 .enum-told2 .given .1) in
     omega (arith, start .good, has-row-lt b u has)
 
 enum-told-4 : tie.Need-enum-told-4

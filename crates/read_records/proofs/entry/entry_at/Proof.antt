@@ -1,9 +1,7 @@
 -- `entry::entry_at` meets its contract: where `locate` finds the bytes, and what is read there. Assumes nothing.
 use borrow.Author.Needs.{needs}
-use mathlib.Core.Path.{ap, sym, _∙_}
+use mathlib.Core.Path.{sym, _∙_}
 use native.Mathlib.Omega.{arith}
-use Rattle.read_records.specs.Entry.{meantFields, fieldsOf}
-use Rattle.read_records.specs.declared.entry.Read.{Read}
 use Rattle.read_records.proofs.Entries.{entry-read, entry-system, entry-graphics, entry-refused}
 use Rattle.read_records.proofs.entry.entry_at.Statement.{statement}
 use Rattle.read_records.proofs.entry.entry_at.Tie as tie
@@ -38,8 +36,8 @@ returns c =
     let o = r .before .before in
     let l = o .before .before in
     let start = l .before .before .before in
-    ap meantFields (c .fields-of .ensures) ∙ ap (λ (x : Read). meantFields (fieldsOf x)) (r .read-entry .ensures) ∙
-    entry-read _ _ _ (omega (arith, start .good)) ∙ sym (entry-system (l .locate .ensures) (o .o .given .1))
+    c .fields-of .ensures ∙ entry-read (omega (arith, start .good)) (r .read-entry .ensures) ∙
+    sym (entry-system (l .locate .ensures) (o .o .given .1))
 
 returns-2 : tie.Need-returns-2
 returns-2 c =
@@ -47,8 +45,8 @@ returns-2 c =
     let o = r .before .before in
     let l = o .before .before in
     let start = l .before .before .before in
-    ap meantFields (c .fields-of2 .ensures) ∙ ap (λ (x : Read). meantFields (fieldsOf x)) (r .read-entry2 .ensures) ∙
-    entry-read _ _ _ (omega (arith, start .good)) ∙ sym (entry-graphics (l .locate .ensures) (o .o2 .given .1))
+    c .fields-of2 .ensures ∙ entry-read (omega (arith, start .good)) (r .read-entry2 .ensures) ∙
+    sym (entry-graphics (l .locate .ensures) (o .o2 .given .1))
 
 returns-3 : tie.Need-returns-3
 returns-3 c =

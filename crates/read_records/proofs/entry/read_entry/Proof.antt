@@ -46,7 +46,7 @@ use denote.Triple.Spec.{tripleOf}
 use denote.Triple.Table.{cited}
 use denote.Triple.Walked.{says, Stays, stay-none, stay-none-slice, walkOf, goes-none, goes-none-slice, ends-at}
 use Rattle.format.specs.Field.{fieldAt}
-use Rattle.blocks.specs.Cursor.{markedCheck, cursorAt, readBy, taken}
+use Rattle.blocks.specs.Cursor.{checkOf, cursorAt, readBy, taken, unmarked}
 use Rattle.blocks.specs.declared.cursor.Cursor.{Cursor}
 use Rattle.blocks.specs.declared.cursor.CursorCheck.{CursorCheck}
 use Rattle.blocks.proofs.Routines.{met-by}
@@ -70,7 +70,7 @@ use Rattle.blocks.proofs.cursor.Cursor.check as check
 use Rattle.blocks.proofs.cursor.Cursor.check.Symbol as check-def
 use Rattle.blocks.proofs.cursor.Cursor.check.Symbol.{name as #check}
 use Rattle.blocks.proofs.cursor.Cursor.check.Met as check-thm
-use Rattle.read_records.specs.Entry.{entryRead}
+use Rattle.read_records.specs.Entry.{ReadsEntry}
 use Rattle.read_records.specs.declared.entry.Read.{Read}
 use Rattle.read_records.proofs.entry.Read as N
 use Rattle.read_records.proofs.entry.Read.Laws as N′
@@ -155,8 +155,8 @@ module _ {M : Type 1} (𝓤 : URA M) (H : Heap 𝓤) (A : Atoms 𝓤) (W : Given
       move ! (1 ∷ 0 ∷ []) $ join ! $ frame ! $ done !
 
   check-said : (t : CursorCheck) → ent 𝓤 (ensured 𝓤 H A check.ended (check.clauses 𝓤 H A at-mem run) (κ, tt) (h₄, tt) tt t)
-      (fact 𝓤 (t ≡ markedCheck (h₄ .overrun)))
-  check-said t = exE 𝓤 _ (λ ws. snd∗ 𝓤 (sem 𝓤 H A (lasts check.ended (κ, tt) (h₄, tt) ws)) (fact 𝓤 (t ≡ markedCheck (h₄ .overrun))))
+      (fact 𝓤 (checkOf t ≡ unmarked h₄))
+  check-said t = exE 𝓤 _ (λ ws. snd∗ 𝓤 (sem 𝓤 H A (lasts check.ended (κ, tt) (h₄, tt) ws)) (fact 𝓤 (checkOf t ≡ unmarked h₄)))
 
   -- the answer, and its machine value
   abbrev made : ℕ → ℕ → ℕ → CursorCheck → Read
@@ -171,12 +171,11 @@ module _ {M : Type 1} (𝓤 : URA M) (H : Heap 𝓤) (A : Atoms 𝓤) (W : Given
       (fsep (u32 .own position (vss .1 .0)) (fsep (u64 .own next (vss .1 .1 .0)) (fsep (S.the-row .own t (vss .1 .1 .1 .0)) ftrue)))
 
   answer : (tag position next : ℕ) (t : CursorCheck) → tag ≡ readBy (fieldAt 4) h₁ → position ≡ readBy (fieldAt 4) h₂
-      → next ≡ readBy (fieldAt 8) h₃ → t ≡ markedCheck (h₄ .overrun) → made tag position next t ≡ entryRead s o b
-  unfolding entryRead
-  answer tag position next t e₁ e₂ e₃ e₄ = λ i. made (e₁ i) (e₂ i) (e₃ i) (e₄ i)
+      → next ≡ readBy (fieldAt 8) h₃ → checkOf t ≡ unmarked h₄ → ReadsEntry h₁ (made tag position next t)
+  answer tag position next t e₁ e₂ e₃ e₄ = record { tag = e₁; position = e₂; next = e₃; checked = e₄ }
 
   exits : (tag position next : ℕ) (t : CursorCheck) (u : Val) → tag < 2 ^ 32 → position < 2 ^ 32 → next < 2 ^ 64
-      → made tag position next t ≡ entryRead s o b
+      → ReadsEntry h₁ (made tag position next t)
       → ent 𝓤 (⋆ 𝓤 H A (‵ (S.the-row .own t (u ∷ [])) ∷ (‵ (flft κ q) ⊛ ‵ ftrue) ∷ ‵ Own ∷ [])) (Post (mach tag position next u))
   exits tag position next t u f₁ f₂ f₃ e =
       qed W (‵ (S.the-row .own t (u ∷ [])) ∷ (‵ (flft κ q) ⊛ ‵ ftrue) ∷ ‵ Own ∷ []) ∵
@@ -247,8 +246,8 @@ module _ {M : Type 1} (𝓤 : URA M) (H : Heap 𝓤) (A : Atoms 𝓤) (W : Given
         calls-at ! fm (Check 𝓤 H A at-mem run) known-check to-check (and-then ! (load ! (from ! (stop !)) (look ! 11 refl)) (no-more !)) (λ u.
         use1 W (later (some (λ (t : CursorCheck). ((‵ (flft κ q) ⊛ ‵ ftrue) ⊛ ‵ (S.the-row .own t (u ∷ []))) ⊛ raw
         (ensured 𝓤 H A check.ended (check.clauses 𝓤 H A at-mem run) (κ, tt) (h₄, tt) tt t)))) (id⊢ 𝓤 _) $ await ! tt $ pick ! (λ t.
-        split ! $ move ! (1 ∷ []) $ use1 W (raw (fact 𝓤 (t ≡ markedCheck (h₄ .overrun)))) (check-said t) $
-        heard ! (t ≡ markedCheck (h₄ .overrun)) (λ e-t. split ! $ move ! (1 ∷ []) $
+        split ! $ move ! (1 ∷ []) $ use1 W (raw (fact 𝓤 (checkOf t ≡ unmarked h₄))) (check-said t) $
+        heard ! (checkOf t ≡ unmarked h₄) (λ e-t. split ! $ move ! (1 ∷ []) $
         peeks ! S.the-row (Is S.the-row) (shows 𝓤 H A S.the-row) t (u ∷ []) (λ is-t.
         -- [what the verdict owns; the token; _4; what s owns; _12; …; _5; …; the rest of _4; _3; …; _0; …]
         land ! (from ! (stop !)) (init ! 4 refl (EL.lawful S.the-type S′.the-laws 𝓤 H A W tt .typed t _ is-t .0)) $

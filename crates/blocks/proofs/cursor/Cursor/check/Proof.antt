@@ -30,7 +30,7 @@ use denote.Triple.Clauses.{ensured, lasts}
 use denote.Triple.Spec.{tripleOf}
 use denote.Triple.Table.{cited}
 use denote.Enum.Laws as EL
-use Rattle.blocks.specs.Cursor.{markedCheck}
+use Rattle.blocks.specs.Cursor.{checkOf, unmarked}
 use Rattle.blocks.specs.declared.cursor.CursorCheck.{CursorCheck}
 use Rattle.blocks.specs.declared.cursor.Cursor.{Cursor}
 use Rattle.blocks.proofs.Apart.{B, Enter, Post, Own, exits, takes-apart}
@@ -45,9 +45,9 @@ use Rattle.blocks.proofs.cursor.Cursor.check.Key.{name as #check}
 use Rattle.blocks.proofs.cursor.Cursor.check.Statement.{statement}
 use Rattle.blocks.proofs.cursor.Cursor.check.Code as code
 
--- the answer
-abbrev told : Cursor → CursorCheck
-told c = markedCheck (c .overrun)
+-- what is promised of the answer
+abbrev Told : Cursor → CursorCheck → Type 0
+Told c r = checkOf r ≡ unmarked c
 
 module _ {M : Type 1} (𝓤 : URA M) (H : Heap 𝓤) (A : Atoms 𝓤) (W : Given 𝓤 H A) (at-mem : Memory → SProp 𝓤) (run : Routine → Fun 𝓤) where
   -- the contract that the proof cites
@@ -61,12 +61,12 @@ module _ {M : Type 1} (𝓤 : URA M) (H : Heap 𝓤) (A : Atoms 𝓤) (W : Given
     goes : ent 𝓤 (emp 𝓤) (RefusedIf .pre to)
     goes = qed W [] ∵ nothing ! $ owned ! bool (Is bool) (bool-makes 𝓤 H A W) (d .overrun) _ refl $ fjoin ! $ nothing ! $ join ! $ frame ! $ done !
 
-    said : (r : CursorCheck) → ent 𝓤 (ensured 𝓤 H A refused-if.ended (refused-if.clauses 𝓤 H A at-mem run) tt (d .overrun, tt) tt r) (fact 𝓤 (r ≡ told d))
-    said r = exE 𝓤 _ (λ ws. snd∗ 𝓤 (sem 𝓤 H A (lasts refused-if.ended tt (d .overrun, tt) ws)) (fact 𝓤 (r ≡ told d)))
+    said : (r : CursorCheck) → ent 𝓤 (ensured 𝓤 H A refused-if.ended (refused-if.clauses 𝓤 H A at-mem run) tt (d .overrun, tt) tt r) (fact 𝓤 (Told d r))
+    said r = exE 𝓤 _ (λ ws. snd∗ 𝓤 (sem 𝓤 H A (lasts refused-if.ended tt (d .overrun, tt) ws)) (fact 𝓤 (Told d r)))
 
     module _ (C : Calls 𝓤 H) (Λ : Loops 𝓤 H) (fm : FmC 𝓤 H (W .laws) C) (known : Triple 𝓤 (C #refused-if) RefusedIf) where
       walk : Holds (hasTy (T′.mir (named 0)) (T′.lowered d)) × WT (T′.lowered d)
-          → ent 𝓤 (Enter S.the-row told 𝓤 H A W κ q d) (WpFn 𝓤 H C Λ code.function (T′.lowered d ∷ []) (Post S.the-row told 𝓤 H A W κ q d))
+          → ent 𝓤 (Enter S.the-row Told 𝓤 H A W κ q d) (WpFn 𝓤 H C Λ code.function (T′.lowered d ∷ []) (Post S.the-row Told 𝓤 H A W κ q d))
       walk wt =
           qed W ((‵ (flft κ q) ⊛ ‵ ftrue) ∷ ‵ (owns (B (κ, tt) ∷ []) (d, tt) (T′.lowered d ∷ [], tt)) ∷ []) ∵ enter ! C Λ code.function
           (T′.lowered d ∷ []) _ $
@@ -80,18 +80,18 @@ module _ {M : Type 1} (𝓤 : URA M) (H : Heap 𝓤) (A : Atoms 𝓤) (W : Given
           use1 W (later (some (λ (r : CursorCheck). (‵ ftrue ⊛ ‵ (S.the-row .own r (u ∷ []))) ⊛ raw
           (ensured 𝓤 H A refused-if.ended (refused-if.clauses 𝓤 H A at-mem run) tt (d .overrun, tt) tt r)))) (id⊢ 𝓤 _) $ await ! tt $
           pick ! (λ r.
-          split ! $ move ! (1 ∷ []) $ use1 W (raw (fact 𝓤 (r ≡ told d))) (said r) $ heard ! (r ≡ told d) (λ e. split ! $ drop ! $
+          split ! $ move ! (1 ∷ []) $ use1 W (raw (fact 𝓤 (Told d r))) (said r) $ heard ! (Told d r) (λ e. split ! $ drop ! $
           peeks ! S.the-row (Is S.the-row) (shows 𝓤 H A S.the-row) r (u ∷ []) (λ is.
           -- [the answer; the token; what the cursor owns; _2; …; _1; …; room for _0; …]
           land ! (from ! (stop !)) (init ! 7 refl (EL.lawful S.the-type S′.the-laws 𝓤 H A W tt .typed r _ is .0)) $
           returns ! (look ! 7 refl) $ forget ! 3 refl $ forget ! 5 refl $ forget ! 7 refl $
           move ! (7 ∷ 8 ∷ []) $ free1 ! $ move ! (5 ∷ 6 ∷ []) $ free1 ! $ move ! (3 ∷ 4 ∷ []) $ free1 ! $ free0 ! $
-          by ! (exits S.the-row told 𝓤 H A W κ q d r u e))))))))
+          by ! (exits S.the-row Told 𝓤 H A W κ q d r u e))))))))
 
 pub check-spec : {M : Type 1} → statement M
 unfolding code.routine
 check-spec 𝓤 H 𝓜 𝓖 𝓡 =
-    takes-apart S.the-row told 𝓤 H 𝓜 𝓖 𝓡 code.env #check code.function (code.unfolded 𝓤 H 𝓜 𝓡) (λ fm κ q d.
+    takes-apart S.the-row Told 𝓤 H 𝓜 𝓖 𝓡 code.env #check code.function (code.unfolded 𝓤 H 𝓜 𝓡) (λ fm κ q d.
     walk 𝓤 H (𝓖 .A) (givenOf 𝓤 H 𝓜 𝓖) (𝓜 .mem) (𝓡 .run) κ q d (tables 𝓤 H 𝓜 𝓡 code.env .C) (tables 𝓤 H 𝓜 𝓡 code.env .Λ) fm
     (cited 𝓤 H (RefusedIf 𝓤 H (𝓖 .A) (givenOf 𝓤 H 𝓜 𝓖) (𝓜 .mem) (𝓡 .run)) 𝓜 𝓡 code.env #refused-if refused-def.routine
     code.calls-blocks·cursor·refused-if (refused-thm.met 𝓤 H 𝓜 𝓖 𝓡)))

@@ -42,6 +42,10 @@ use Rattle.blocks.proofs.cursor.Cursor.va.Key.{name as #va}
 use Rattle.blocks.proofs.cursor.Cursor.va.Statement.{statement}
 use Rattle.blocks.proofs.cursor.Cursor.va.Code as code
 
+-- what is promised of the answer
+abbrev Told : Cursor → ℕ → Type 0
+Told c r = r ≡ vaOf c
+
 module _ {M : Type 1} (𝓤 : URA M) (H : Heap 𝓤) (A : Atoms 𝓤) (W : Given 𝓤 H A) (at-mem : Memory → SProp 𝓤) (run : Routine → Fun 𝓤) where
   -- the contract that the proof cites
   abbrev Address : Contract 𝓤
@@ -56,12 +60,12 @@ module _ {M : Type 1} (𝓤 : URA M) (H : Heap 𝓤) (A : Atoms 𝓤) (W : Given
         qed W [] ∵ nothing ! $ owned ! usize (Is usize) (uint-makes 𝓤 H A W w64) (d .pos) _ (refl, pos) $ fjoin ! $
         owned ! u64 (Is u64) (uint-makes 𝓤 H A W w64) (d .base) _ (refl, base) $ fjoin ! $ nothing ! $ join ! $ frame ! $ done !
 
-    said : (r : ℕ) → ent 𝓤 (ensured 𝓤 H A address.ended (address.clauses 𝓤 H A at-mem run) tt (d .base, (d .pos, tt)) tt r) (fact 𝓤 (r ≡ vaOf d))
-    said r = exE 𝓤 _ (λ ws. snd∗ 𝓤 (sem 𝓤 H A (lasts address.ended tt (d .base, (d .pos, tt)) ws)) (fact 𝓤 (r ≡ vaOf d)))
+    said : (r : ℕ) → ent 𝓤 (ensured 𝓤 H A address.ended (address.clauses 𝓤 H A at-mem run) tt (d .base, (d .pos, tt)) tt r) (fact 𝓤 (Told d r))
+    said r = exE 𝓤 _ (λ ws. snd∗ 𝓤 (sem 𝓤 H A (lasts address.ended tt (d .base, (d .pos, tt)) ws)) (fact 𝓤 (Told d r)))
 
     module _ (C : Calls 𝓤 H) (Λ : Loops 𝓤 H) (fm : FmC 𝓤 H (W .laws) C) (known : Triple 𝓤 (C #address) Address) where
       walk : Holds (hasTy (T′.mir (named 0)) (T′.lowered d)) × WT (T′.lowered d)
-          → ent 𝓤 (Enter u64 vaOf 𝓤 H A W κ q d) (WpFn 𝓤 H C Λ code.function (T′.lowered d ∷ []) (Post u64 vaOf 𝓤 H A W κ q d))
+          → ent 𝓤 (Enter u64 Told 𝓤 H A W κ q d) (WpFn 𝓤 H C Λ code.function (T′.lowered d ∷ []) (Post u64 Told 𝓤 H A W κ q d))
       walk wt =
           qed W ((‵ (flft κ q) ⊛ ‵ ftrue) ∷ ‵ (owns (B (κ, tt) ∷ []) (d, tt) (T′.lowered d ∷ [], tt)) ∷ []) ∵ enter ! C Λ code.function
           (T′.lowered d ∷ []) _ $
@@ -78,18 +82,18 @@ module _ {M : Type 1} (𝓤 : URA M) (H : Heap 𝓤) (A : Atoms 𝓤) (W : Given
           use1 W (later (some (λ (r : ℕ). (‵ ftrue ⊛ ‵ (u64 .own r (u ∷ []))) ⊛ raw
           (ensured 𝓤 H A address.ended (address.clauses 𝓤 H A at-mem run) tt (d .base, (d .pos, tt)) tt r)))) (id⊢ 𝓤 _) $ await ! tt $
           pick ! (λ r.
-          split ! $ move ! (1 ∷ []) $ use1 W (raw (fact 𝓤 (r ≡ vaOf d))) (said r) $ heard ! (r ≡ vaOf d) (λ e. split ! $ drop ! $
+          split ! $ move ! (1 ∷ []) $ use1 W (raw (fact 𝓤 (Told d r))) (said r) $ heard ! (Told d r) (λ e. split ! $ drop ! $
           peeks ! u64 (Is u64) (shows 𝓤 H A u64) r (u ∷ []) (λ is.
           -- [the answer; the token; what the cursor owns; _3; …; _2; …; _1; …; room for _0; …]
           land ! (from ! (stop !)) (init ! 9 refl (uint-lawful 𝓤 H A W w64 .typed r _ is .0)) $
           returns ! (look ! 9 refl) $ forget ! 3 refl $ forget ! 5 refl $ forget ! 7 refl $ forget ! 9 refl $
           move ! (9 ∷ 10 ∷ []) $ free1 ! $ move ! (7 ∷ 8 ∷ []) $ free1 ! $ move ! (5 ∷ 6 ∷ []) $ free1 ! $ move ! (3 ∷ 4 ∷ []) $ free1 ! $
-          free0 ! $ by ! (exits u64 vaOf 𝓤 H A W κ q d r u e)))))))))
+          free0 ! $ by ! (exits u64 Told 𝓤 H A W κ q d r u e)))))))))
 
 pub va-spec : {M : Type 1} → statement M
 unfolding code.routine
 va-spec 𝓤 H 𝓜 𝓖 𝓡 =
-    takes-apart u64 vaOf 𝓤 H 𝓜 𝓖 𝓡 code.env #va code.function (code.unfolded 𝓤 H 𝓜 𝓡) (λ fm κ q d.
+    takes-apart u64 Told 𝓤 H 𝓜 𝓖 𝓡 code.env #va code.function (code.unfolded 𝓤 H 𝓜 𝓡) (λ fm κ q d.
     walk 𝓤 H (𝓖 .A) (givenOf 𝓤 H 𝓜 𝓖) (𝓜 .mem) (𝓡 .run) κ q d (tables 𝓤 H 𝓜 𝓡 code.env .C) (tables 𝓤 H 𝓜 𝓡 code.env .Λ) fm
     (cited 𝓤 H (Address 𝓤 H (𝓖 .A) (givenOf 𝓤 H 𝓜 𝓖) (𝓜 .mem) (𝓡 .run)) 𝓜 𝓡 code.env #address address-def.routine
     code.calls-blocks·cursor·address (address-thm.met 𝓤 H 𝓜 𝓖 𝓡)))
