@@ -21,12 +21,12 @@ use Rattle.format.specs.Rows.{laid, cleared}
 use Rattle.format.specs.Joints.{limitRows, limits}
 use Rattle.fields.proofs.Laws.{fieldAt-stands}
 use Rattle.joints.specs.Limit.{limitWords, limitRowWords}
-use Rattle.joints.specs.Reading.{recordOf, FindsRecord, recordsTaken, Stage, listOf}
+use Rattle.joints.specs.Reading.{recordOf, FindsRecord, recordsTaken, Stage, meantList, listAt}
 use Rattle.joints.specs.declared.read.Record.{Record}
 use Rattle.joints.specs.declared.read.Found.the-variants.{At, Refused as no-record}
 use Rattle.joints.specs.declared.read.Step.{Step}
 use Rattle.joints.specs.declared.read.Step.the-variants.{Done, Refused as stopped}
-use Rattle.joints.specs.declared.read.LimitList.{LimitList}
+use Rattle.joints.specs.declared.read.LimitList.the-variants.{Absent, Of}
 use Rattle.fields.proofs.WordLists.{drop-take, words-take}
 
 -- ---- the fields of a record
@@ -183,11 +183,11 @@ module _ (least greatest slots n : ℕ) (s : List ℕ) where
 
 -- ---- a list by its pointer
 
-pub list-absent : {va : ℕ} (n : ℕ) → va ≡ 0 → _≡_ {A = LimitList} (record { stands = false; rows = 0 }) (listOf va n)
-unfolding listOf
+pub list-absent : {va : ℕ} (n : ℕ) → va ≡ 0 → meantList Absent ≡ listAt va n
+unfolding listAt
 list-absent n e = rw e refl
 
-pub list-stands : (va n : ℕ) → (va ≡ 0 → ⊥) → _≡_ {A = LimitList} (record { stands = true; rows = n }) (listOf va n)
-unfolding listOf
+pub list-stands : (va n : ℕ) → (va ≡ 0 → ⊥) → meantList (Of n) ≡ listAt va n
+unfolding listAt
 list-stands zero n h = absurd (h refl)
 list-stands (suc a) n h = refl

@@ -20,7 +20,7 @@ use Rattle.format.specs.Rows.{laid, cleared}
 use Rattle.format.specs.Joints.{rotationLimit, rotationRow, rotationWords, translationLimit, translationRow, translationWords}
 use Rattle.format.specs.Joints.{limitRows, limits, mapped, Joints, readJoints}
 use Rattle.joints.specs.Limit.{limitWords}
-use Rattle.joints.specs.Reading.{recordOf, FindsRecord, meantRecord, tableOf, Stage, listOf, listsRead, listIf}
+use Rattle.joints.specs.Reading.{recordOf, FindsRecord, meantRecord, tableOf, Stage, meantList, listAt, listsRead, limitsIn}
 use Rattle.joints.specs.Reading.{wordsOf}
 use Rattle.joints.specs.Reading.{meantStep, meantJoints, rotationTable, translationTable, ReadsJoints}
 use Rattle.joints.specs.declared.read.Record.{Record}
@@ -82,8 +82,8 @@ module _ {L : Type 0} (least greatest k : ℕ) (row limit : List ℕ → L)
       (va n : ℕ) {rs : Option (List (List ℕ))} {t : List ℕ} (m : ℕ) →
       limits sec room k va n ≡ done rs →
       t ≡ laid (tableOf (limitWords least greatest) (done rs)) m →
-      listIf (listOf va n .stands) (map row (limitRows (7 + k) (listOf va n .rows) t)) ≡ mapped limit rs
-  unfolding limits listOf
+      limitsIn (λ m. map row (limitRows (7 + k) m t)) (listAt va n) ≡ mapped limit rs
+  unfolding limits listAt
   list-given zero n {rs} m e f = let z : rs ≡ none = cc in rw z refl
   list-given (suc a) n {rs} {t} m e f =
       let b = found-by k n (array sec (suc a) (4 * k * n)) (leb n room) e in
@@ -169,10 +169,10 @@ module _ (sec : Section) (h : Record) {rt₀ st₀ rt : List ℕ} {r₁ : Step} 
             (record { answer = refl; rotation = cleared-laid (length rt₀) (rw l at z); translation = rw f at (s₂ .table) })
 
         pub lists-both :
-            {a b : LimitList} →
+            (a b : LimitList) →
             r₂ ≡ Done →
-            a ≡ listOf (h .rotation) (h .«rotation_count») →
-            b ≡ listOf (h .translation) (h .«translation_count») →
+            meantList a ≡ listAt (h .rotation) (h .«rotation_count») →
+            meantList b ≡ listAt (h .translation) (h .«translation_count») →
             ReadsJoints
             (listsRead sec (length rt₀ / 55) (length st₀ / 23) h)
             (Read
@@ -188,7 +188,7 @@ module _ (sec : Section) (h : Record) {rt₀ st₀ rt : List ℕ} {r₁ : Step} 
             rt
             st
         unfolding listsRead
-        lists-both e ea eb =
+        lists-both a b e ea eb =
             let x = stage-done s₁ e₁ in
             let y = stage-done s₂ e in
             let tx : rt ≡ laid (tableOf (limitWords 23 26) (done (x .0))) (length rt₀) = rw (x .1) at (s₁ .table) in
@@ -200,9 +200,9 @@ module _ (sec : Section) (h : Record) {rt₀ st₀ rt : List ℕ} {r₁ : Step} 
             let q =
             list-given 8 12 16 translationRow translationLimit translation-back sec (length st₀ / 23) (h .translation)
             (h .«translation_count») (length st₀) (y .1) ty in
-            rw (x .1, y .1, ea, eb)
+            rw (x .1, y .1)
             (record {
-              answer = rw (p, q) refl;
+              answer = rw (ea, eb, p, q) refl;
               rotation = rw (words-given rotationWords rotationLimit (limitWords 23 26) rotation-words (x .0)) at tx;
               translation = rw (words-given translationWords translationLimit (limitWords 8 12) translation-words (y .0)) at ty;
             })

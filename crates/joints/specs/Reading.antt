@@ -2,7 +2,6 @@
 -- list; both lists; the answer. Definitions only.
 use Prim.Native.Nat.{ℕ, zero, suc, _*_, _/_}
 use mathlib.Core.Path.{_≡_}
-use mathlib.Core.Bool.{Bool, true, false}
 use mathlib.Core.Option.{Option, none, some}
 use mathlib.Core.List.{List, [], flatMap}
 use lib.Dec.{leb}
@@ -23,6 +22,7 @@ use Rattle.joints.specs.declared.read.Found.the-variants.{At, Refused as
 use Rattle.joints.specs.declared.read.Step.{Step}
 use Rattle.joints.specs.declared.read.Step.the-variants.{Done, Refused as stopped}
 use Rattle.joints.specs.declared.read.LimitList.{LimitList}
+use Rattle.joints.specs.declared.read.LimitList.the-variants.{Absent, Of}
 use Rattle.joints.specs.declared.read.JointsRead.{JointsRead}
 use Rattle.joints.specs.declared.read.JointsRead.the-variants.{Nothing, Read, Refused}
 
@@ -75,10 +75,15 @@ pub record Stage (f : List ℕ → List ℕ) (g : Res (Option (List (List ℕ)))
   pub answer : meantStep r ≡ whether g
   pub table : t ≡ laid (tableOf f g) (length t₀)
 
--- a list by its pointer and its count
-unfoldable pub listOf : ℕ → ℕ → LimitList
-listOf zero n = record { stands = false; rows = 0 }
-listOf (suc a) n = record { stands = true; rows = n }
+-- how many limits a list has, or none where it is absent
+abbrev pub meantList : LimitList → Option ℕ
+meantList Absent = none
+meantList (Of n) = some n
+
+-- the same by its pointer and its count
+unfoldable pub listAt : ℕ → ℕ → Option ℕ
+listAt zero n = none
+listAt (suc a) n = some n
 
 -- ---- both lists
 
@@ -104,10 +109,10 @@ abbrev pub tableRead : List ℕ → List ℕ → ℕ → List ℕ → List ℕ �
 tableRead sys gfx root rotation translation =
     readJoints (section sys gfx) (length rotation / rotationWidth) (length translation / translationWidth) root
 
--- a list that stands, or none
-abbrev pub listIf : {A : Type 0} → Bool → List A → Option (List A)
-listIf true l = some l
-listIf false l = none
+-- the limits of a list that has so many, where f gives those in the first rows of its table
+abbrev pub limitsIn : {A : Type 0} → (ℕ → List A) → Option ℕ → Option (List A)
+limitsIn f none = none
+limitsIn f (some n) = some (f n)
 
 -- the joints of an answer and of the two tables behind it, none, or the refusal's number
 abbrev pub meantJoints : JointsRead → List ℕ → List ℕ → Res (Option Joints.Joints)
@@ -119,8 +124,8 @@ meantJoints (Read j) rotation translation =
       kind = j .kind;
       rotationCount = j .«rotation_count»;
       translationCount = j .«translation_count»;
-      rotation = listIf (j .rotation .stands) (rotationsOf (j .rotation .rows) rotation);
-      translation = listIf (j .translation .stands) (translationsOf (j .translation .rows) translation);
+      rotation = limitsIn (λ n. rotationsOf n rotation) (meantList (j .rotation));
+      translation = limitsIn (λ n. translationsOf n translation) (meantList (j .translation));
     }))
 meantJoints (Refused r) rotation translation = refused (number r)
 

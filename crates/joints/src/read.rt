@@ -7,7 +7,7 @@ ghost use Rattle.format.specs.Rows.{laid, cleared};
 ghost use Rattle.format.specs.Joints as Definitions;
 ghost use Rattle.blocks.specs.Places.{section};
 ghost use Rattle.joints.specs.Limit.{limitWords, Shaped};
-ghost use Rattle.joints.specs.Reading.{recordOf, FindsRecord, listOf, recordsTaken, Stage, listsRead, ReadsJoints};
+ghost use Rattle.joints.specs.Reading.{recordOf, FindsRecord, meantList, listAt, recordsTaken, Stage, listsRead, ReadsJoints};
 ghost use Rattle.joints.specs.Reading.{tableRead, meantJoints, rotationTable, translationTable};
 use crate::limits;
 use blocks::places;
@@ -15,11 +15,11 @@ use blocks::places::Located;
 use format::Refusal;
 
 // A list of limits.
-pub struct LimitList {
-    // its pointer is not 0
-    pub stands: bool,
-    // how many limits it has: the rows of its table
-    pub rows: usize,
+pub enum LimitList {
+    // Its pointer is 0.
+    Absent,
+    // It has so many limits: the first rows of its table.
+    Of(u16),
 }
 
 pub struct Joints {
@@ -141,18 +141,12 @@ fn read_limits(
 // ---- both lists
 
 fn list_at(va: u64, n: u16) -> LimitList
-    ensures { λ r. ⌜ r ≡ listOf va n ⌝ }
+    ensures { λ r. ⌜ meantList r ≡ listAt va n ⌝ }
 {
     if va == 0 {
-        return LimitList {
-            stands: false,
-            rows: 0,
-        };
+        return LimitList::Absent;
     }
-    LimitList {
-        stands: true,
-        rows: n as usize,
-    }
+    LimitList::Of(n)
 }
 
 fn read_lists(

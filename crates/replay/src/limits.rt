@@ -1,6 +1,7 @@
 // Joints replayed (docs/FORMAT.md, "Joints and names").
 use crate::tables;
 use joints::read::JointsRead;
+use joints::read::LimitList;
 use joints::write::JointsWritten;
 
 // ---- reading
@@ -22,6 +23,20 @@ fn answer_alone(answer: u32) -> [usize; 8] {
     fields
 }
 
+fn stands(l: LimitList) -> usize {
+    match l {
+        LimitList::Absent => 0,
+        LimitList::Of(_) => 1,
+    }
+}
+
+fn limit_count(l: LimitList) -> usize {
+    match l {
+        LimitList::Absent => 0,
+        LimitList::Of(n) => n as usize,
+    }
+}
+
 // The answer, and behind it the kind word, the stored counts, and of each list whether it stands and how many limits it has; zeros
 // where nothing is read.
 fn fields_of(r: JointsRead) -> [usize; 8] {
@@ -35,10 +50,10 @@ fn fields_of(r: JointsRead) -> [usize; 8] {
                 j.kind as usize,
                 j.rotation_count as usize,
                 j.translation_count as usize,
-                r.stands as usize,
-                r.rows,
-                t.stands as usize,
-                t.rows,
+                stands(r),
+                limit_count(r),
+                stands(t),
+                limit_count(t),
             ]
         }
         JointsRead::Refused(e) => answer_alone(format::code(e)),

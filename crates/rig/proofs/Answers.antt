@@ -1,20 +1,20 @@
 -- A status and a count say what the answer was. Assumes nothing.
 use Prim.Native.Nat.{ℕ}
-use mathlib.Core.Path.{_≡_, sym, ap, _∙_}
-use mathlib.Core.Bool.{Bool, true, false}
+use mathlib.Core.Path.{_≡_, refl, sym, ap, _∙_}
 use mathlib.Core.Option.{Option, none, some}
-use mathlib.Core.List.{List, [], _∷_}
-use lib.ListN.{replicate}
+use mathlib.Core.List.{List, [], _∷_, map}
+use lib.ListN.{replicate, length-map}
 use Rattle.format.specs.Result.{Res, refused, done}
 use Rattle.format.specs.Refusal.{number}
 use Rattle.format.specs.declared.Refusal.{Refusal}
-use Rattle.format.specs.Joints.{Joints, RotationLimit, TranslationLimit}
-use Rattle.joints.specs.Reading.{listIf, meantJoints}
+use Rattle.format.specs.Joints.{Joints, rotationRow, rotationWidth, translationRow, translationWidth, limitRows}
+use Rattle.joints.specs.Reading.{meantList, limitsIn, meantJoints}
+use Rattle.joints.proofs.BothKinds.{length-limitRows}
 use Rattle.joints.specs.declared.read.Joints as declared
 use Rattle.joints.specs.declared.read.JointsRead.{JointsRead}
 use Rattle.joints.specs.declared.read.JointsRead.the-variants as answer
-use Rattle.rig_answers.specs.Answer.{status, counted, readStatus, numberIf}
-use Rattle.rig.specs.Answer.{countIf, jointsFields}
+use Rattle.rig_answers.specs.Answer.{status, counted, readStatus, given, numberIf, present}
+use Rattle.rig.specs.Answer.{limitCount, jointsFields}
 
 pub status-done : {A : Type 0} {x : Res A} {a : A} → done a ≡ x → 0 ≡ status x
 status-done e = ap status e
@@ -28,17 +28,15 @@ counted-done e = ap counted e
 pub counted-refused : {x : Res ℕ} {n : ℕ} → refused n ≡ x → 0 ≡ counted x
 counted-refused e = ap counted e
 
--- the fields of joints whose lists stand or not
-pub joints-told :
-    (k rc tc : ℕ) (rb tb : Bool) (rl : List RotationLimit) (tl : List TranslationLimit) {w : Res (Option Joints)} →
-    done
-    (some
-    (record { kind = k; rotationCount = rc; translationCount = tc; rotation = listIf rb rl; translation = listIf tb tl })) ≡ w →
-    k ∷ rc ∷ tc ∷ numberIf rb ∷ countIf rb rc ∷ numberIf tb ∷ countIf tb tc ∷ [] ≡ jointsFields w
-joints-told k rc tc true true rl tl e = ap jointsFields e
-joints-told k rc tc true false rl tl e = ap jointsFields e
-joints-told k rc tc false true rl tl e = ap jointsFields e
-joints-told k rc tc false false rl tl e = ap jointsFields e
+-- whether a list stands, and how many limits it has, by the number of its rows
+module _ {A : Type 0} (row : List ℕ → A) (k : ℕ) (t : List ℕ) where
+  stands-in : (o : Option ℕ) → present o ≡ present (limitsIn (λ n. map row (limitRows k n t)) o)
+  stands-in none = refl
+  stands-in (some n) = refl
+
+  count-in : (o : Option ℕ) → given (done o) ≡ limitCount (limitsIn (λ n. map row (limitRows k n t)) o)
+  count-in none = refl
+  count-in (some n) = sym (length-map (limitRows k n t) row ∙ length-limitRows k n t)
 
 -- ---- each answer of a reading, with the tables r and t behind it
 
@@ -57,10 +55,16 @@ module _ {a : JointsRead} (r t : List ℕ) {w : Res (Option Joints)} where
 
   pub joints-read :
       {j : declared.Joints} {rs rc ts tc : ℕ} → a ≡ answer.Read j → meantJoints a r t ≡ w →
-      rs ≡ numberIf (j .rotation .stands) → rc ≡ countIf (j .rotation .stands) (j .«rotation_count») →
-      ts ≡ numberIf (j .translation .stands) → tc ≡ countIf (j .translation .stands) (j .«translation_count») →
+      rs ≡ numberIf (present (meantList (j .rotation))) → rc ≡ given (done (meantList (j .rotation))) →
+      ts ≡ numberIf (present (meantList (j .translation))) → tc ≡ given (done (meantList (j .translation))) →
       (0 ≡ readStatus w) ×
       (j .kind ∷ j .«rotation_count» ∷ j .«translation_count» ∷ rs ∷ rc ∷ ts ∷ tc ∷ [] ≡ jointsFields w)
   joints-read {j} e m ers erc ets etc =
       let x = sym (ap (λ q. meantJoints q r t) e) ∙ m in
-      (ap readStatus x, rw (ers, erc, ets, etc) (joints-told _ _ _ (j .rotation .stands) (j .translation .stands) _ _ x))
+      let rn = meantList (j .rotation) in
+      let tn = meantList (j .translation) in
+      let ers′ = ers ∙ ap numberIf (stands-in rotationRow rotationWidth r rn) in
+      let erc′ = erc ∙ count-in rotationRow rotationWidth r rn in
+      let ets′ = ets ∙ ap numberIf (stands-in translationRow translationWidth t tn) in
+      let etc′ = etc ∙ count-in translationRow translationWidth t tn in
+      (ap readStatus x, rw (ers′, erc′, ets′, etc′) (ap jointsFields x))

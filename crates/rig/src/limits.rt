@@ -2,33 +2,37 @@
 // the refusal.
 ghost use mathlib.Core.Path.{_≡_};
 ghost use lib.ListN.{length};
+ghost use Rattle.format.specs.Result.{done};
 ghost use Rattle.format.specs.Joints.{freshSlots};
 ghost use Rattle.format.specs.Rows.{laid};
-ghost use Rattle.joints.specs.Reading.{tableRead, rotationTable, translationTable};
+ghost use Rattle.joints.specs.Reading.{meantList, tableRead, rotationTable, translationTable};
 ghost use Rattle.joints.specs.Written.{tableWritten, leftIn};
 ghost use Rattle.tables.specs.Outcome.{sizeOf};
-ghost use Rattle.rig_answers.specs.Answer.{status, counted, readStatus, numberIf};
-ghost use Rattle.rig.specs.Answer.{countIf, jointsFields};
+ghost use Rattle.rig_answers.specs.Answer.{status, counted, readStatus, given, numberIf, present};
+ghost use Rattle.rig.specs.Answer.{jointsFields};
 use joints::read::JointsRead;
+use joints::read::LimitList;
 use joints::write::JointsWritten;
 use rig_answers::NOTHING;
 
-fn number_if(b: bool) -> u32
-    ensures { λ r. ⌜ r ≡ numberIf b ⌝ }
+// 1 where a list stands, else 0.
+fn stands(l: LimitList) -> u32
+    ensures { λ r. ⌜ r ≡ numberIf (present (meantList l)) ⌝ }
 {
-    if b {
-        return 1;
+    match l {
+        LimitList::Absent => 0,
+        LimitList::Of(_) => 1,
     }
-    0
 }
 
-fn count_if(b: bool, n: u16) -> u32
-    ensures { λ r. ⌜ r ≡ countIf b n ⌝ }
+// How many limits a list has, 0 where it is absent.
+fn limit_count(l: LimitList) -> u32
+    ensures { λ r. ⌜ r ≡ given (done (meantList l)) ⌝ }
 {
-    if b {
-        return n as u32;
+    match l {
+        LimitList::Absent => 0,
+        LimitList::Of(n) => n as u32,
     }
-    0
 }
 
 // The joints at a root address. `fields` are the kind word, the two stored counts, and of each list whether it stands and how many
@@ -65,10 +69,10 @@ pub extern "C" fn rig_joints_read(
                 j.kind,
                 j.rotation_count as u32,
                 j.translation_count as u32,
-                number_if(r.stands),
-                count_if(r.stands, j.rotation_count),
-                number_if(t.stands),
-                count_if(t.stands, j.translation_count),
+                stands(r),
+                limit_count(r),
+                stands(t),
+                limit_count(t),
             ];
             0
         }

@@ -72,7 +72,8 @@ returns-3 c =
     let x = e .before .before .before .before in
     let k = x .before .before .before .before .before .before in
     lists-both _ (k .args .h) (x .read-limits .ensures) (e .enum-told .given .1) (y .read-limits2 .ensures)
-    (c .before .before .enum-told2 .given .1) (c .before .list-at .ensures) (c .list-at2 .ensures)
+    (c .before .list-at .result) (c .list-at2 .result) (c .before .before .enum-told2 .given .1)
+    (c .before .list-at .ensures) (c .list-at2 .ensures)
 
 pub read-lists-spec : {M : Type 1} → statement M
 read-lists-spec =

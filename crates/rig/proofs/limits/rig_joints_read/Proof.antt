@@ -19,17 +19,17 @@ cast-t17 c = search needs
 cast-t18 : tie.Need-cast-t18
 cast-t18 c = search needs
 
-number-if-requires : tie.Need-number-if-requires
-number-if-requires c κs = search needs
+stands-requires : tie.Need-stands-requires
+stands-requires c κs = search needs
 
-count-if-requires : tie.Need-count-if-requires
-count-if-requires c κs = search needs
+limit-count-requires : tie.Need-limit-count-requires
+limit-count-requires c κs = search needs
 
-number-if-requires-2 : tie.Need-number-if-requires-2
-number-if-requires-2 c κs = search needs
+stands-requires-2 : tie.Need-stands-requires-2
+stands-requires-2 c κs = search needs
 
-count-if-requires-2 : tie.Need-count-if-requires-2
-count-if-requires-2 c κs = search needs
+limit-count-requires-2 : tie.Need-limit-count-requires-2
+limit-count-requires-2 c κs = search needs
 
 enum-known-r : tie.Need-enum-known-r
 enum-known-r c = search needs
@@ -58,11 +58,11 @@ same-length-4 c = search needs
 
 returns-2 : tie.Need-returns-2
 returns-2 c =
-    let r = c .before .before .before .before .before .before .before .before .before .before .before .before .before .before .before .before .read in
+    let r = c .before .before .before .before .before .before .before .before .before .before .before .before .before .before .read in
     let k = r .ensures in
-    let a = joints-read (r .last .1 .1 .1 .0) (r .last .1 .1 .1 .1 .0) (c .before .before .before .before .before .before .before .before .before .before .j .given .1) (k .0)
-    (c .before .before .before .before .number-if .ensures) (c .before .before .before .count-if .ensures)
-    (c .before .before .number-if2 .ensures) (c .before .count-if2 .ensures) in
+    let a = joints-read (r .last .1 .1 .1 .0) (r .last .1 .1 .1 .1 .0) (c .before .before .before .before .before .before .before .before .j .given .1) (k .0)
+    (c .before .before .before .before .stands .ensures) (c .before .before .before .limit-count .ensures)
+    (c .before .before .stands2 .ensures) (c .before .limit-count2 .ensures) in
     (a .0, (a .1, k .1))
 
 same-length-5 : tie.Need-same-length-5
@@ -75,7 +75,7 @@ returns-3 : tie.Need-returns-3
 returns-3 c =
     let r = c .before .before .before .before .before .before .before .before .before .read in
     let k = r .ensures in
-    let a = refused-read (r .last .1 .1 .1 .0) (r .last .1 .1 .1 .1 .0) (c .before .before .before .r2 .given .1) (k .0) (c .code .ensures) in
+    let a = refused-read (r .last .1 .1 .1 .0) (r .last .1 .1 .1 .1 .0) (c .before .before .before .r .given .1) (k .0) (c .code .ensures) in
     (a .0, (a .1, k .1))
 
 pub rig-joints-read-spec : {M : Type 1} → statement M
@@ -87,10 +87,10 @@ rig-joints-read-spec =
     enum-known-j
     cast-t17
     cast-t18
-    number-if-requires
-    count-if-requires
-    number-if-requires-2
-    count-if-requires-2
+    stands-requires
+    limit-count-requires
+    stands-requires-2
+    limit-count-requires-2
     enum-known-r
     code-requires
     same-length
