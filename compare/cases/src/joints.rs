@@ -16,7 +16,7 @@ pub fn limits(rng: &mut Rng) -> (Vec<RotationLimit>, Vec<TranslationLimit>) {
     (rotations, (0..rng.below(4)).map(|_| translation_limit(rng)).collect())
 }
 
-/// A good section: written by 01's layout, or scattered over both halves.
+/// A good section: written by the layout of docs/FORMAT.md, or scattered over both halves.
 pub fn good(rng: &mut Rng) -> Section {
     let (rotations, translations) = limits(rng);
     let written = joints_write(&rotations, &translations).section();

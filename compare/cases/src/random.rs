@@ -14,7 +14,7 @@ pub struct Case {
     pub section: Section,
 }
 
-/// A good section: written by 01's layout or scattered by hand, with some graphics bytes beside it.
+/// A good section: written by the layout of docs/FORMAT.md or scattered by hand, with some graphics bytes beside it.
 pub fn good(rng: &mut Rng) -> (Vec<Bone>, Section) {
     let bones = rig(rng);
     let section = good_of(rng, &bones);

@@ -1,4 +1,4 @@
-//! Sizes and field offsets of the stored records (01, "Records").
+//! Sizes and field offsets of the stored records (docs/FORMAT.md, "Records").
 
 pub mod skeleton {
     pub const SIZE: usize = 112;

@@ -37,10 +37,10 @@ pub fn exact(r: &Rows) -> [usize; 8] {
     lengths(used(r))
 }
 
-/// The rows of the program's tables for reading (01, "Joints and names").
+/// The rows of the program's tables for reading (docs/FORMAT.md, "Joints and names").
 pub const PROGRAM: [usize; 8] = [800, 8_192, 4_096, 800, 800, 800, 8_192, 8_192];
 
-/// The rows that `n` bones want of the tables for deriving (01, "Who can cause a refusal"): buckets, entries, inverse,
+/// The rows that `n` bones want of the tables for deriving (docs/FORMAT.md, "Who can cause a refusal"): buckets, entries, inverse,
 /// local, parents, children, pending.
 pub fn derived(n: usize) -> [usize; 7] {
     let [buckets, entries] = if n < 2 { [0, 0] } else { [num_hash_buckets(n), n] };

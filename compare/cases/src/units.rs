@@ -1,4 +1,4 @@
-//! Named units from which test bytes are built, and the records as units (01, "Records").
+//! Named units from which test bytes are built, and the records as units (docs/FORMAT.md, "Records").
 
 use crate::records::{joints, skeleton};
 use oracle::{Bone, Matrix};

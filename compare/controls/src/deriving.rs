@@ -13,9 +13,9 @@ pub fn sheet() -> Sheet {
     let bounds: Vec<u32> = ladder.into_iter().flat_map(|n| [n, n + 1]).collect();
     let buckets: Vec<u32> = bounds.iter().map(|&n| num_hash_buckets(n as usize) as u32).collect();
     s.published("ladder", format!("map numHashBuckets ({})", numbers(&bounds)), numbers(&buckets));
-    let tags = [0u32, 11];
-    let two = tags.map(|tag| Bone { tag: tag as u16, ..plain_bone(0, NONE) });
-    s.published("twoBones", format!("length (chains ({}))", numbers(&tags)), build_bone_tags(&two).len().to_string());
+    let counts = [0u32, 1, 2, 10, 11];
+    let chains = counts.map(|n| build_bone_tags(&vec![plain_bone(0, NONE); n as usize]).len() as u32);
+    s.published("chainCounts", format!("map (λ n. length (chains (replicate n 0))) ({})", numbers(&counts)), numbers(&chains));
     for (name, parents) in [("rootMinusTwo", [-2, 0]), ("rootLeast", [i16::MIN, 0])] {
         let (_, children) = build_indices(&rig_of_parents(&parents));
         let left = format!("children (0 ∷ 1 ∷ []) ({})", numbers(&parents.map(|p| p as u16)));
@@ -62,11 +62,11 @@ fn sizes(s: &mut Sheet) {
     let wanted = cases::tables::derived(2);
     let short = |table: usize| std::array::from_fn(|t| wanted[t] - (t == table) as usize);
     let lent: Vec<[usize; 7]> = std::iter::once(wanted).chain((0..7).map(short)).collect();
-    let rooms = list(lent.iter().map(|rows| applied("deriveRoom", &rows.map(|n| n as u64))));
+    let rooms = list(lent.iter().map(|rows| applied("lentRows", &rows.map(|n| n as u64))));
     s.text("sizes", format!("map (λ r. derives r 2) ({rooms})"), list(lent.iter().map(|&rows| truth(derives(rows, 2)))));
     let none = [(0, [0, 0, 0, 0, 0, 8, 4]), (1, [0, 0, 1, 1, 1, 16, 8])];
     for (name, (n, rows)) in ["sizesOfNone", "sizesOfOne"].into_iter().zip(none) {
-        let left = format!("derives ({}) {n}", applied("deriveRoom", &rows.map(|n| n as u64)));
+        let left = format!("derives ({}) {n}", applied("lentRows", &rows.map(|n| n as u64)));
         s.text(name, left, truth(derives(rows, n)));
     }
 }

@@ -18,9 +18,9 @@ pub fn sheet() -> Sheet {
     s.define("point", applied("vector", &POINT.map(f32::to_bits)));
     s.define("matrix", format!("matrixOf ({})", words(&MATRIX)));
     let Vec4 { x, y, z, w } = left.quat_mul(right);
-    s.published("multiplied", "words4 (quatMul left right)", words(&[x, y, z, w]));
+    s.published("multiplied", "vec4Words (quatMul left right)", words(&[x, y, z, w]));
     let Vec3 { x, y, z } = left.quat_rotate(point);
-    s.published("rotated", "words3 (quatRotate left point)", words(&[x, y, z]));
+    s.published("rotated", "vec3Words (quatRotate left point)", words(&[x, y, z]));
     s.published("placed", "matrixWords (fromQuatPos left point)", words(&Mat4::from_quat_pos(left, point).0));
     s.published("inverted", "matrixWords (inverse matrix)", words(&Mat4(MATRIX).inverse().0));
     s

@@ -1,4 +1,4 @@
-//! Reading, check and writing in tables of so many rows: 1 where the published functions use more, by 01's text.
+//! Reading, check and writing in tables of so many rows: 1 where the published functions use more, by docs/FORMAT.md's text.
 
 use crate::term::Answer;
 use cases::{tables, Section};

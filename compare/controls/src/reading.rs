@@ -60,7 +60,7 @@ fn checks_empty(s: &mut Sheet, name: &'static str, edits: &Edits) {
     s.joined(name, with("checkEmptyWith", edits), check(&empty(edits)));
 }
 
-/// The rows lent: `roomOf` bones, buckets, entries, inverse matrices, pool rows; the other tables have the program's.
+/// The rows lent: `roomWith` bones, buckets, entries, inverse matrices, pool rows; the other tables have the program's.
 fn lent_rows([bones, buckets, entries, inverse, pool]: [usize; 5]) -> [usize; 8] {
     [bones, buckets, entries, inverse, PROGRAM[4], PROGRAM[5], PROGRAM[6], pool]
 }
@@ -81,7 +81,7 @@ fn room(s: &mut Sheet) {
     ];
     for (name, edits, rows) in cases {
         let read = lent::read(&control(edits), lent_rows(rows));
-        let term = applied("roomOf", &rows.map(|n| n as u64));
+        let term = applied("roomWith", &rows.map(|n| n as u64));
         let left = format!("read ({}) ({term}) base", with("controlWith", edits));
         match read {
             Err(number) => s.joined(name, left, format!("refused {number}")),

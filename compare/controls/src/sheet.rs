@@ -5,9 +5,9 @@
 pub enum Source {
     /// A published function gives it.
     Published,
-    /// 01's text over published functions: check, lookup, search, and a reading in few rows.
+    /// docs/FORMAT.md's text over published functions: check, lookup, search, and a reading in few rows.
     Joined,
-    /// 01's text alone: the sizes of the tables for deriving, the order of the writer's refusals, what the program prints.
+    /// docs/FORMAT.md's text alone: the sizes of the tables for deriving, the order of the writer's refusals, what the program prints.
     Text,
     /// Names what other lines are about, and has no value.
     Named,

@@ -95,7 +95,7 @@ pub fn rust(i: &DeriveInput) -> DeriveAnswer {
     };
     let lists = lists.into_iter().chain(std::iter::repeat(Vec::new()));
     let laid = |(mut list, length): (Vec<u32>, usize)| {
-        assert!(list.len() <= length, "a list has more rows than 01 sizes its table for");
+        assert!(list.len() <= length, "a list has more rows than docs/FORMAT.md sizes its table for");
         list.resize(length, 0);
         list
     };

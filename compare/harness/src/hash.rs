@@ -23,7 +23,7 @@ impl Input for Name {
     }
 }
 
-/// The published hash takes UTF-8; for other bytes 01's definition stands in, which `rigs::hash` holds to it.
+/// The published hash takes UTF-8; for other bytes the format's definition stands in, which `rigs::hash` holds to it.
 pub fn hash_of(name: &[u8]) -> u32 {
     std::str::from_utf8(name).map_or_else(|_| model::joaat(name), rage_joaat)
 }

@@ -1,4 +1,4 @@
-//! Definitions of 01 written anew from its text, as a second opinion on the published code.
+//! The definitions of the format written anew from its words, as a second opinion on the published code.
 
 use oracle::{num_hash_buckets, Bone, Chains};
 

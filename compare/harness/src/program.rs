@@ -1,4 +1,4 @@
-//! The program: its line on standard output against the check put together from the published functions, in the tables that 01
+//! The program: its line on standard output against the check put together from the published functions, in the tables that docs/FORMAT.md
 //! gives the program.
 
 mod inputs;

@@ -1,4 +1,4 @@
-//! What the published Rust does where document 01 leaves room: one named assertion for each reading. What our library
+//! What the published Rust does where the words of the format leave room: one named assertion for each reading. What our library
 //! exports is asked beside it (`ask`), and must answer alike. docs/DECISIONS.md and docs/DIFFERENCES.md cite these functions
 //! by name.
 

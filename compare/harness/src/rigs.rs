@@ -1,4 +1,4 @@
-//! Rigs: deriving against 01's definitions, writing and reading back, joints and names.
+//! Rigs: deriving against the format's definitions, writing and reading back, joints and names.
 
 use crate::model;
 use crate::share::share;
@@ -10,7 +10,7 @@ use oracle::{
     Bone, JointsAnswer, RotationLimit, TranslationLimit, Verdict, COLUMN4, SYSTEM_BASE,
 };
 
-/// Chains and children of random rigs equal the definitions; column 4 is as 01 says.
+/// Chains and children of random rigs equal the definitions; column 4 is as docs/FORMAT.md says.
 pub fn derive(seed: u64, rigs: u64, threads: u64) -> Result<u64, String> {
     let random = |seed| derive_one(&rig(&mut Rng::new(seed))).map_err(|e| format!("deriving, seed {seed}: {e}"));
     share(seed, rigs, threads, |_, seed| random(seed))?;
@@ -141,7 +141,7 @@ fn stored_translation(l: &TranslationLimit) -> TranslationLimit {
     TranslationLimit { other, ..*l }
 }
 
-/// The published hash equals 01's on random strings.
+/// The published hash equals the format's on random strings.
 pub fn hash(seed: u64, names: u64) -> Result<u64, String> {
     let mut rng = Rng::new(seed);
     for _ in 0..names {

@@ -7,7 +7,7 @@ mod exports;
 
 pub use checks::Checks;
 
-/// The status of a call that did what was asked; a refusal is 01's number.
+/// The status of a call that did what was asked; a refusal is its number.
 pub const DONE: u32 = 0;
 
 /// The status of reading at root 0.

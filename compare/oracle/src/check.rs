@@ -1,4 +1,4 @@
-//! The skeleton check of 01, put together from the published reading and derivations.
+//! The skeleton check of docs/FORMAT.md, put together from the published reading and derivations.
 
 use crate::bone::{Bone, Matrix};
 use crate::derive::{build_bone_tags, build_indices, build_transformations, settle_nan, Chains};
@@ -66,7 +66,7 @@ fn chain_read(entries: &[Entry], first: Option<usize>) -> Option<Vec<(u32, u32)>
     Some(met)
 }
 
-/// Stored words against derived words, these with 01's NaN.
+/// Stored words against derived words, these with the format's NaN.
 fn equal_words(stored: &Option<Vec<Matrix>>, derived: &[Matrix]) -> bool {
     let stored = stored.as_deref().unwrap_or(&[]);
     stored.len() == derived.len() && stored.iter().zip(derived).all(|(s, d)| *s == settle_nan(d))

@@ -1,4 +1,4 @@
-//! The published derivations on plain bones (01, "Deriving").
+//! The published derivations on plain bones (docs/FORMAT.md, "Deriving").
 
 use crate::bone::{matrix_words, published, Bone, Matrix};
 use rage_formats::blocks::base::PointerArray64;
@@ -13,7 +13,7 @@ pub type Chains = Vec<Vec<(u32, u32)>>;
 /// The words of column 4, in which copied values keep their bits.
 pub const COLUMN4: [usize; 4] = [3, 7, 11, 15];
 
-/// What 01 makes of a NaN in a derived matrix word outside column 4.
+/// What docs/FORMAT.md makes of a NaN in a derived matrix word outside column 4.
 pub const SETTLED_NAN: u32 = 0x7FC0_0000;
 
 fn published_bones(bones: &[Bone]) -> Vec<skeleton::Bone> {
@@ -49,7 +49,7 @@ pub fn build_transformations(bones: &[Bone]) -> (Vec<Matrix>, Vec<Matrix>) {
     (words(local), words(inverse))
 }
 
-/// The matrix with 01's listed difference: a NaN outside column 4 is 7FC00000 hex.
+/// The matrix with the listed difference: a NaN outside column 4 is 7FC00000 hex.
 pub fn settle_nan(m: &Matrix) -> Matrix {
     std::array::from_fn(|i| if !COLUMN4.contains(&i) && f32::from_bits(m[i]).is_nan() { SETTLED_NAN } else { m[i] })
 }

@@ -1,4 +1,4 @@
-//! `Joints` and the two limits on plain words (01, "Joints and names").
+//! `Joints` and the two limits on plain words (docs/FORMAT.md, "Joints and names").
 
 use crate::bone::{vec3, vec3_words};
 use crate::refusal::number;

@@ -1,6 +1,6 @@
-//! The published Rust, built unchanged, behind plain types: words, bytes and document 01's numbers.
+//! The published Rust, built unchanged, behind plain types: words, bytes and the numbers of refusals.
 //!
-//! `read`, `derive`, `write` and `joints` run the published bodies. `check` joins them as 01's
+//! `read`, `derive`, `write` and `joints` run the published bodies. `check` joins them as docs/FORMAT.md's
 //! "Lookup and check" says, `lookup` is read from there over the published `Reader`.
 
 mod bone;

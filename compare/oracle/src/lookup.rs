@@ -1,4 +1,4 @@
-//! The tag lookup of 01, read from its text over the published `Reader`.
+//! The tag lookup of docs/FORMAT.md, read from its text over the published `Reader`.
 
 use crate::header::{header, Header};
 use crate::refusal::number;

@@ -1,4 +1,4 @@
-//! `Skeleton::read` on two byte slices, and all that it leaves as plain values (01, "Reading and
+//! `Skeleton::read` on two byte slices, and all that it leaves as plain values (docs/FORMAT.md, "Reading and
 //! writing a skeleton").
 
 use crate::bone::{matrix_words, plain, Bone, Matrix};

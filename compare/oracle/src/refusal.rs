@@ -1,6 +1,6 @@
-//! Document 01's refusal numbers from the messages of the published source.
+//! The numbers of the refusals from the messages of the published source.
 
-/// The number that 01 gives to what the message says.
+/// The number of what the message says.
 ///
 /// A message that no section, bone list or limit list may cause (a null pointer among them) is a
 /// fault of the harness and stops it.

@@ -1,5 +1,5 @@
 //! The rows that reading uses in each table, up to its end or its refusal: where a table is lent with fewer, 1 is met
-//! first (01, "Who can cause a refusal").
+//! first (docs/FORMAT.md, "Who can cause a refusal").
 
 use crate::header::header;
 use crate::read::{read, Answer};

@@ -1,4 +1,4 @@
-//! 01's section from the published `Block::write` bodies: each block is placed where 01 lays it and
+//! The section of docs/FORMAT.md from the published `Block::write` bodies: each block is placed where docs/FORMAT.md lays it and
 //! writes itself there.
 
 use crate::bone::{published, Bone};
@@ -35,7 +35,7 @@ impl Written {
 
 /// Writes the bones with the four free words (28, 80, 84, 88). Tests 2, 4, 3.
 ///
-/// Derived NaN words outside column 4 are written as 7FC00000 hex, as 01 has it.
+/// Derived NaN words outside column 4 are written as 7FC00000 hex, as docs/FORMAT.md has it.
 pub fn write(bones: &[Bone], free: [u32; 4]) -> Written {
     if bones.len() > 65_535 {
         return Written::Refused(2);
@@ -80,7 +80,7 @@ fn settle_matrices(g: &mut Graph) {
     }
 }
 
-/// Blocks in the order in which 01 lays them, each in its place.
+/// Blocks in the order in which docs/FORMAT.md lays them, each in its place.
 pub(crate) struct Placed {
     order: Vec<BlockId>,
     parts: Vec<Part>,
@@ -98,7 +98,7 @@ impl Placed {
         Placed { order: Vec::with_capacity(blocks), parts: Vec::with_capacity(9), end: 0 }
     }
 
-    /// 01's parts in order from 50000000 hex: skeleton, buckets, entries in bucket and chain order, bones, names in bone order, lists.
+    /// docs/FORMAT.md's parts in order from 50000000 hex: skeleton, buckets, entries in bucket and chain order, bones, names in bone order, lists.
     pub fn skeleton(g: &mut Graph, root: BlockId, names: &[Option<BlockId>]) -> Self {
         let mut placed = Placed::new(2 * names.len() + 7);
         let &Skeleton { bone_tags, bones, transforms_inv, transforms, parent_indices, child_indices, .. } =

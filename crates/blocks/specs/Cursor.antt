@@ -6,7 +6,7 @@ use mathlib.Core.List.{List}
 use denote.Ref.{RefT, now}
 use Rattle.format.specs.Result.{Res, refused, done, need}
 use Rattle.format.specs.Refusal.{number}
-use Rattle.format.specs.Field.{field, stands, orZero, fieldAt}
+use Rattle.format.specs.Field.{field, stands, orZero}
 use Rattle.format.specs.declared.Words3.{Words3}
 use Rattle.format.specs.declared.Words4.{Words4}
 use Rattle.blocks.specs.declared.cursor.Cursor.{Cursor}

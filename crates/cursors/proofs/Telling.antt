@@ -6,9 +6,10 @@ use Prim.Native.Nat.{ℕ, _≤_, _<_}
 use borrow.Author.Tests.{le-leb, lt-leb}
 use lib.ListN.{length}
 use lib.Seq.{sets}
+use Rattle.format.specs.Result.{status}
 use Rattle.format.specs.Field.{whichList}
 use Rattle.blocks.specs.Cursor.{checkOf}
-use Rattle.cursors.specs.Turns.{statusOf, numbersOf, fit, told}
+use Rattle.cursors.specs.Turns.{numbersOf, fit, told}
 use Rattle.cursors.specs.declared.Turns.{Turns}
 
 pub none-fit : (l d : List ℕ) → length d < 15 → (false ≡ fit d) × (d ≡ told l d)
@@ -24,7 +25,7 @@ front t u =
     t .va ∷ u ∷ []
 
 pub all-fit :
-    (t : Turns) {l : List ℕ} {u : ℕ} (d : List ℕ) → 15 ≤ length d → numbersOf t ≡ l → u ≡ statusOf (checkOf (t .checked)) →
+    (t : Turns) {l : List ℕ} {u : ℕ} (d : List ℕ) → 15 ≤ length d → numbersOf t ≡ l → u ≡ status (checkOf (t .checked)) →
     (true ≡ fit d) × (sets d 0 (front t u) ≡ told l d)
 unfolding told whichList numbersOf
 all-fit t d h e f = (

@@ -6,18 +6,13 @@ use lib.Dec.{leb}
 use lib.ListN.{length}
 use lib.Seq.{sets}
 use denote.Ref.{RefT}
-use Rattle.format.specs.Result.{Res, refused, done}
+use Rattle.format.specs.Result.{status}
 use Rattle.format.specs.Field.{fieldAt, whichList}
 use Rattle.format.specs.declared.Words3.{Words3}
 use Rattle.format.specs.declared.Words4.{Words4}
 use Rattle.blocks.specs.Cursor.{words3At, words4At, checkOf, cursorAt, readBy, taken, skipped, unmarked, vaOf}
 use Rattle.blocks.specs.declared.cursor.Cursor.{Cursor}
 use Rattle.cursors.specs.declared.Turns.{Turns}
-
--- 0, or the refusal's number
-abbrev pub statusOf : Res (Unit {0}) → ℕ
-statusOf (done u) = 0
-statusOf (refused c) = c
 
 -- the cursor before each read, in the order of the reads
 module _ (s : RefT (List ℕ)) (pos base n : ℕ) where
@@ -42,14 +37,14 @@ module _ (s : RefT (List ℕ)) (pos base n : ℕ) where
   abbrev pub threeFrom : Cursor
   threeFrom = taken 4 floatAt
 
-  abbrev three : Words3
-  three = readBy words3At threeFrom
+  abbrev threeRead : Words3
+  threeRead = readBy words3At threeFrom
 
   abbrev pub fourAt : Cursor
   fourAt = taken 12 threeFrom
 
-  abbrev four : Words4
-  four = readBy words4At fourAt
+  abbrev fourRead : Words4
+  fourRead = readBy words4At fourAt
 
   abbrev pub skipAt : Cursor
   skipAt = taken 16 fourAt
@@ -62,10 +57,10 @@ module _ (s : RefT (List ℕ)) (pos base n : ℕ) where
   inTurn =
       readBy (fieldAt 1) byteAt ∷ readBy (fieldAt 2) halfAt ∷ readBy (fieldAt 2) signedAt ∷
       readBy (fieldAt 4) wordAt ∷ readBy (fieldAt 8) longAt ∷ readBy (fieldAt 4) floatAt ∷
-      three .x ∷ three .y ∷ three .z ∷
-      four .x ∷ four .y ∷ four .z ∷ four .w ∷
+      threeRead .x ∷ threeRead .y ∷ threeRead .z ∷
+      fourRead .x ∷ fourRead .y ∷ fourRead .z ∷ fourRead .w ∷
       vaOf lastAt ∷
-      statusOf (unmarked lastAt) ∷ []
+      status (unmarked lastAt) ∷ []
 
 -- the numbers of the code's answer
 unfoldable pub numbersOf : Turns → List ℕ
@@ -73,7 +68,7 @@ numbersOf t =
     t .byte ∷ t .half ∷ t .signed ∷ t .word ∷ t .long ∷ t .float ∷
     t .three .x ∷ t .three .y ∷ t .three .z ∷
     t .four .x ∷ t .four .y ∷ t .four .z ∷ t .four .w ∷
-    t .va ∷ statusOf (checkOf (t .checked)) ∷ []
+    t .va ∷ status (checkOf (t .checked)) ∷ []
 
 -- whether the numbers fit in a lent slice
 abbrev pub fit : List ℕ → Bool

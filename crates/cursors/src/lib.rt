@@ -1,7 +1,8 @@
 // Each method of a cursor in turn, over plain parameters: what the run against the Rust calls (`Cursor` of `src/blocks/mod.rs`).
 ghost use mathlib.Core.Path.{_≡_};
+ghost use Rattle.format.specs.Result.{status};
 ghost use Rattle.blocks.specs.Cursor.{checkOf};
-ghost use Rattle.cursors.specs.Turns.{inTurn, statusOf, numbersOf, fit, told};
+ghost use Rattle.cursors.specs.Turns.{inTurn, numbersOf, fit, told};
 use blocks::cursor::Cursor;
 use blocks::cursor::CursorCheck;
 use format::Words3;
@@ -54,7 +55,7 @@ pub const NUMBERS: usize = 15;
 
 // The status that C and Rust are told: 0, or the refusal's number.
 fn status(c: CursorCheck) -> u64
-    ensures { λ r. ⌜ r ≡ statusOf (checkOf c) ⌝ }
+    ensures { λ r. ⌜ r ≡ status (checkOf c) ⌝ }
 {
     match c {
         CursorCheck::Within => 0,

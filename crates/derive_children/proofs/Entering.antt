@@ -3,14 +3,14 @@
 use Prim.Native.Nat.{ℕ, suc, _+_, _-_, _*_, _≤_, _<_}
 use native.Mathlib.Omega.{arith}
 use native.Mathlib.Numerals.{add-one}
-use mathlib.Core.Path.{_≡_, refl, sym, ap, _∙_}
+use mathlib.Core.Path.{_≡_, refl, _∙_}
 use mathlib.Core.Bool.{Bool, true, false}
 use mathlib.Core.List.{List}
 use lib.ListN.{length, getD, set, length-set}
 use lib.Seq.{getD-set-same, getD-set-other}
 use lib.Dec.{eqb}
 use borrow.Author.Tests.{eqb-true, eqb-false}
-use Rattle.derive_children.specs.Index.{firstWord, positionsFrom, slotOf, Sought, Index, firstAt, linkAt, headAt, IndexTable}
+use Rattle.derive_children.specs.Index.{firstWord, positionsFrom, slotOf, Sought, firstAt, linkAt, headAt, IndexTable}
 use Rattle.derive_children.proofs.ByParent.{slot-below, index-agree, looked, index-found, index-new}
 
 -- ---- stores elsewhere

@@ -3,7 +3,7 @@
 use mathlib.Core.Path.{_≡_, refl, sym, ap, _∙_}
 use mathlib.Core.Logic.{⊎-elim}
 use mathlib.Core.Bool.{Bool, true, false, not, _&&_}
-use mathlib.Core.List.{List, [], _∷_, _++_}
+use mathlib.Core.List.{List, [], _++_}
 use Prim.Native.Nat.{ℕ, suc, _+_, _-_, _*_, _/_, _≤_, _<_}
 use native.Mathlib.Nat.{add-zero, mul-zero, mul-suc, mul-comm, one-mul, add-assoc, le-div-iff-mul-le, div-lt-iff-lt-mul}
 use native.Mathlib.Numerals.{add-one}
@@ -15,7 +15,7 @@ use lib.Seq.{take-add, take-all, getD-take, getD-drop, drop-cons, drop-drop, set
 use Rattle.format.specs.Field.{fieldAt, stands, whichList, words, bytes, wordBytes}
 use Rattle.format.proofs.Fields.{length-bytes}
 use Rattle.fields.specs.Placed.{placedOf}
-use Rattle.fields.specs.Runs.{loads, loaded, stores, stored, copies, copied}
+use Rattle.fields.specs.Runs.{loaded, stored, copied}
 use Rattle.fields.specs.declared.Placed.the-variants.{Stored, Outside}
 use Rattle.fields.proofs.Stores.{sets-append, part-sets-same}
 use Rattle.fields.proofs.Laws.{fieldAt-stands, le-or-lt}

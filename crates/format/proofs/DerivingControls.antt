@@ -8,7 +8,7 @@ unfolding everything
 deriving-controls =
     record {
       ladder = refl;
-      twoBones = refl;
+      chainCounts = refl;
       rootMinusTwo = refl;
       rootLeast = refl;
       ownParent = refl;

@@ -21,7 +21,7 @@ pub record CheckControls : Type 0 where
   -- no bucket pointer, and no buckets
   pub noBucketPointer : lookup (controlWith ((16, 0) ∷ (19, 0) ∷ [])) base 5 ≡ done none
   pub noBucketCount : lookup (controlWith ((24, 0) ∷ [])) base 5 ≡ done none
-  -- the bucket array runs past the section's end, but for bucket 0
+  -- the bucket array runs past the section's end, though bucket 0 stands
   pub wholeArray : lookup (controlWith ((16, 128) ∷ (17, 3) ∷ [])) base 0 ≡ refused 11
   -- the first 98 bytes of a section of no bones, and root 0
   pub lookupIn98 : lookup (shortened 98) base 0 ≡ done none

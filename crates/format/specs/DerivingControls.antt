@@ -4,7 +4,7 @@ use Prim.Native.Nat.{ℕ}
 use mathlib.Core.Bool.{true, false}
 use mathlib.Core.Option.{none}
 use mathlib.Core.List.{[], _∷_, map}
-use lib.ListN.{length, getD}
+use lib.ListN.{length, getD, replicate}
 use Rattle.format.specs.Bone.{Words3, Words4, words3, words4, minusOne}
 use Rattle.format.specs.Chains.{numHashBuckets, chains}
 use Rattle.format.specs.Children.{children}
@@ -41,11 +41,11 @@ abbrev pub guest : NamedBone
 guest = leaning (words4 0x3E4C_CCCD 0xBF19_999A 0x3F33_3333 0x3EB3_3333) (words3 0x4040_0000 0x3F00_0000 0xBFA0_0000) 0
 
 -- rows of the tables, in their order
-abbrev pub deriveRoom : (buckets entries inverse local parents children pending : ℕ) → DeriveRoom
-deriveRoom b e i l p c q = record { buckets = b; entries = e; inverse = i; local = l; parents = p; children = c; pending = q }
+abbrev pub lentRows : (buckets entries inverse local parents children pending : ℕ) → DeriveRoom
+lentRows b e i l p c q = record { buckets = b; entries = e; inverse = i; local = l; parents = p; children = c; pending = q }
 
 pub record DerivingControls : Type 0 where
-  -- on both sides of each step
+  -- on both sides of each step but the first and the last, which are in `TrialCases`
   pub ladder :
       map numHashBuckets (28 ∷ 29 ∷ 58 ∷ 59 ∷ 106 ∷ 107 ∷ 190 ∷ 191 ∷
       330 ∷ 331 ∷ 562 ∷ 563 ∷ 952 ∷ 953 ∷ 1608 ∷ 1609 ∷
@@ -55,8 +55,8 @@ pub record DerivingControls : Type 0 where
       331 ∷ 563 ∷ 563 ∷ 953 ∷ 953 ∷ 1609 ∷ 1609 ∷ 2729 ∷
       2729 ∷ 4621 ∷ 4621 ∷ 7841 ∷ 7841 ∷ 13297 ∷ 13297 ∷ 22571 ∷
       22571 ∷ 38351 ∷ 38351 ∷ 65167 ∷ []
-  -- two bones have chains
-  pub twoBones : length (chains (0 ∷ 11 ∷ [])) ≡ 11
+  -- how many chains some bones have: fewer than two have none
+  pub chainCounts : map (λ n. length (chains (replicate n 0))) (0 ∷ 1 ∷ 2 ∷ 10 ∷ 11 ∷ []) ≡ 0 ∷ 0 ∷ 11 ∷ 11 ∷ 29 ∷ []
   -- a root is any bone with a negative parent: -2, and -32,768
   pub rootMinusTwo : children (0 ∷ 1 ∷ []) (65534 ∷ 0 ∷ []) ≡ 1 ∷ 0 ∷ 1 ∷ 0 ∷ 1 ∷ 0 ∷ 1 ∷ 0 ∷ []
   pub rootLeast : children (0 ∷ 1 ∷ []) (32768 ∷ 0 ∷ []) ≡ 1 ∷ 0 ∷ 1 ∷ 0 ∷ 1 ∷ 0 ∷ 1 ∷ 0 ∷ []
@@ -72,10 +72,10 @@ pub record DerivingControls : Type 0 where
   pub climbsToNoNegative : within 65535 32768 ≡ false
   -- two bones' tables, and each of them a row short
   pub sizes :
-      map (λ r. derives r 2) (deriveRoom 11 2 2 2 2 24 12 ∷ deriveRoom 10 2 2 2 2 24 12 ∷
-      deriveRoom 11 1 2 2 2 24 12 ∷ deriveRoom 11 2 1 2 2 24 12 ∷ deriveRoom 11 2 2 1 2 24 12 ∷
-      deriveRoom 11 2 2 2 1 24 12 ∷ deriveRoom 11 2 2 2 2 23 12 ∷ deriveRoom 11 2 2 2 2 24 11 ∷ []) ≡
+      map (λ r. derives r 2) (lentRows 11 2 2 2 2 24 12 ∷ lentRows 10 2 2 2 2 24 12 ∷
+      lentRows 11 1 2 2 2 24 12 ∷ lentRows 11 2 1 2 2 24 12 ∷ lentRows 11 2 2 1 2 24 12 ∷
+      lentRows 11 2 2 2 1 24 12 ∷ lentRows 11 2 2 2 2 23 12 ∷ lentRows 11 2 2 2 2 24 11 ∷ []) ≡
       true ∷ false ∷ false ∷ false ∷ false ∷ false ∷ false ∷ false ∷ []
   -- fewer than two bones have no chains
-  pub sizesOfNone : derives (deriveRoom 0 0 0 0 0 8 4) 0 ≡ true
-  pub sizesOfOne : derives (deriveRoom 0 0 1 1 1 16 8) 1 ≡ true
+  pub sizesOfNone : derives (lentRows 0 0 0 0 0 8 4) 0 ≡ true
+  pub sizesOfOne : derives (lentRows 0 0 1 1 1 16 8) 1 ≡ true

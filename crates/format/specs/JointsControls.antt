@@ -38,7 +38,7 @@ pub record JointsControls : Type 0 where
   pub fiftyOne : readJoints (halves (replicate 51 0) []) 0 0 base ≡ refused 11
   -- one rotation limit at the address 1, and no row for it: 10 goes before 1
   pub limitBytesFirst : readJoints (halves (replicate 16 0 ++ 1 ∷ replicate 31 0 ++ 1 ∷ replicate 3 0) []) 0 0 base ≡ refused 10
-  -- 65,536 limits and no buffer
+  -- 65,536 limits and no buffer: 6 goes before 5
   pub sixBeforeFive : jointsWritten 0 (replicate 65536 rotation1) [] ≡ refused 6
   -- the slots of the fresh rotation limit
   pub fresh : freshSlots ≡

@@ -27,8 +27,8 @@ abbrev pub checkEmptyWith : List (ℕ × ℕ) → Res (Option ℕ)
 checkEmptyWith es = check (halves (edited es (layout [] noFree)) []) programRoom programDeriveRoom base
 
 -- the program's tables, but for the rows of bones, buckets, entries, inverse matrices and the pool
-abbrev pub roomOf : (bones buckets entries inverse pool : ℕ) → Room
-roomOf o b e i p = record { bones = o; buckets = b; entries = e; inverse = i; local = 800; parents = 800; children = 8192; pool = p }
+abbrev pub roomWith : (bones buckets entries inverse pool : ℕ) → Room
+roomWith o b e i p = record { bones = o; buckets = b; entries = e; inverse = i; local = 800; parents = 800; children = 8192; pool = p }
 
 abbrev pub parentsRead : Res (Option Read) → List ℕ
 parentsRead (done (some r)) = r .parents
@@ -85,21 +85,21 @@ pub record ReadingControls : Type 0 where
   pub blockPastEnd : checkEmptyWith ((32, 129) ∷ (35, 80) ∷ []) ≡ refused 11
   -- ---- where 1 is met: behind the bytes of what takes the row
   -- no row for a bone, whose name's address has its bit 32 set
-  pub nameBeforeRow : read (controlWith ((332, 1) ∷ [])) (roomOf 0 11 3 3 15) base ≡ refused 10
+  pub nameBeforeRow : read (controlWith ((332, 1) ∷ [])) (roomWith 0 11 3 3 15) base ≡ refused 10
   -- no row for a bucket, whose chain begins in neither half
-  pub chainBeforeBucket : read (controlWith ((112, 1) ∷ [])) (roomOf 3 0 3 3 15) base ≡ refused 10
+  pub chainBeforeBucket : read (controlWith ((112, 1) ∷ [])) (roomWith 3 0 3 3 15) base ≡ refused 10
   -- no row for an entry, which lies in neither half
-  pub entryBeforeRow : read (controlWith ((155, 64) ∷ [])) (roomOf 3 11 0 3 15) base ≡ refused 10
+  pub entryBeforeRow : read (controlWith ((155, 64) ∷ [])) (roomWith 3 11 0 3 15) base ≡ refused 10
   -- no row for the inverse matrices, which lie in neither half
-  pub bytesBeforeRows : read (controlWith ((43, 64) ∷ [])) (roomOf 3 11 3 0 15) base ≡ refused 10
+  pub bytesBeforeRows : read (controlWith ((43, 64) ∷ [])) (roomWith 3 11 3 0 15) base ≡ refused 10
   -- no row for a bone, and none for the inverse matrices
-  pub noBoneRow : read (controlWith []) (roomOf 0 11 3 3 15) base ≡ refused 1
-  pub noInverseRow : read (controlWith []) (roomOf 3 11 3 0 15) base ≡ refused 1
+  pub noBoneRow : read (controlWith []) (roomWith 0 11 3 3 15) base ≡ refused 1
+  pub noInverseRow : read (controlWith []) (roomWith 3 11 3 0 15) base ≡ refused 1
   -- three bones want fifteen pool rows
-  pub poolFull : read (controlWith []) (roomOf 3 11 3 3 14) base ≡ refused 1
-  pub poolHolds : inverseCount (read (controlWith []) (roomOf 3 11 3 3 15) base) ≡ 48
+  pub poolFull : read (controlWith []) (roomWith 3 11 3 3 14) base ≡ refused 1
+  pub poolHolds : inverseCount (read (controlWith []) (roomWith 3 11 3 3 15) base) ≡ 48
   -- an entry that links to itself takes one row
-  pub selfLink : inverseCount (read (controlWith ((216, 208) ∷ [])) (roomOf 3 11 1 3 15) base) ≡ 48
+  pub selfLink : inverseCount (read (controlWith ((216, 208) ∷ [])) (roomWith 3 11 1 3 15) base) ≡ 48
   -- ---- the order of reading
   -- 10 of the buckets goes before 13 of the bones pointer 15
   pub bucketsBefore13 : readWith ((32, 15) ∷ (33, 0) ∷ (35, 0) ∷ (19, 64) ∷ []) ≡ refused 10

@@ -15,11 +15,11 @@ use Rattle.format.specs.Write.{goodBytes, written}
 use Rattle.format.specs.Program.{programDeriveRoom}
 use Rattle.format.specs.TrialCases.{noFree}
 use Rattle.format.specs.ReadingControls.{halves, placeAt}
-use Rattle.format.specs.DerivingControls.{deriveRoom}
+use Rattle.format.specs.DerivingControls.{lentRows}
 
 -- tables of no rows
 abbrev pub noDeriving : DeriveRoom
-noDeriving = deriveRoom 0 0 0 0 0 0 0
+noDeriving = lentRows 0 0 0 0 0 0 0
 
 -- a root at rest, its name at a place
 abbrev pub placedBone : Option Place → Bone Place

@@ -1,7 +1,6 @@
 -- The definition of the hash at four names, as `rage_joaat` of the Rust gives it. Assumes nothing.
 use mathlib.Core.Path.{_≡_, refl}
 use mathlib.Core.List.{[], _∷_}
-use Prim.Native.Nat.{ℕ}
 use Rattle.format.specs.Hash.{mix, rageJoaat}
 
 -- ""

@@ -1,7 +1,6 @@
 -- Finding the record and one list of limits (docs/FORMAT.md, "Joints and names"). In order: the fields of a record; the ways out of
 -- `find_record`; `limits` by its pointer and count; the ways out of a stage. Assumes nothing.
 use mathlib.Core.Path.{_≡_, refl, sym, _∙_}
-use mathlib.Core.Bool.{true, false}
 use mathlib.Core.Option.{Option, none, some}
 use mathlib.Core.List.{List, [], flatMap}
 use Prim.Native.Nat.{ℕ, zero, suc, _+_, _-_, _*_, _/_, _^_, _≤_, _<_}
@@ -21,7 +20,7 @@ use Rattle.format.specs.Rows.{laid, cleared}
 use Rattle.format.specs.Joints.{limitRows, limits}
 use Rattle.fields.proofs.Laws.{fieldAt-stands}
 use Rattle.joints.specs.Limit.{limitWords, limitRowWords}
-use Rattle.joints.specs.Reading.{recordOf, FindsRecord, recordsTaken, Stage, meantList, listAt}
+use Rattle.joints.specs.Reading.{recordOf, FindsRecord, recordsTaken, Stage, meantList, limitsAt}
 use Rattle.joints.specs.declared.read.Record.{Record}
 use Rattle.joints.specs.declared.read.Found.the-variants.{At, Refused as no-record}
 use Rattle.joints.specs.declared.read.Step.{Step}
@@ -183,11 +182,11 @@ module _ (least greatest slots n : ℕ) (s : List ℕ) where
 
 -- ---- a list by its pointer
 
-pub list-absent : {va : ℕ} (n : ℕ) → va ≡ 0 → meantList Absent ≡ listAt va n
-unfolding listAt
+pub list-absent : {va : ℕ} (n : ℕ) → va ≡ 0 → meantList Absent ≡ limitsAt va n
+unfolding limitsAt
 list-absent n e = rw e refl
 
-pub list-stands : (va n : ℕ) → (va ≡ 0 → ⊥) → meantList (Of n) ≡ listAt va n
-unfolding listAt
+pub list-stands : (va n : ℕ) → (va ≡ 0 → ⊥) → meantList (Of n) ≡ limitsAt va n
+unfolding limitsAt
 list-stands zero n h = absurd (h refl)
 list-stands (suc a) n h = refl

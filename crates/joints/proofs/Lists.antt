@@ -20,7 +20,7 @@ use Rattle.format.specs.Rows.{laid, cleared}
 use Rattle.format.specs.Joints.{rotationLimit, rotationRow, rotationWords, translationLimit, translationRow, translationWords}
 use Rattle.format.specs.Joints.{limitRows, limits, mapped, Joints, readJoints}
 use Rattle.joints.specs.Limit.{limitWords}
-use Rattle.joints.specs.Reading.{recordOf, FindsRecord, meantRecord, tableOf, Stage, meantList, listAt, listsRead, limitsIn}
+use Rattle.joints.specs.Reading.{recordOf, FindsRecord, meantRecord, tableOf, Stage, meantList, limitsAt, listsRead, limitsIn}
 use Rattle.joints.specs.Reading.{wordsOf}
 use Rattle.joints.specs.Reading.{meantStep, meantJoints, rotationTable, translationTable, ReadsJoints}
 use Rattle.joints.specs.declared.read.Record.{Record}
@@ -82,8 +82,8 @@ module _ {L : Type 0} (least greatest k : ℕ) (row limit : List ℕ → L)
       (va n : ℕ) {rs : Option (List (List ℕ))} {t : List ℕ} (m : ℕ) →
       limits sec room k va n ≡ done rs →
       t ≡ laid (tableOf (limitWords least greatest) (done rs)) m →
-      limitsIn (λ m. map row (limitRows (7 + k) m t)) (listAt va n) ≡ mapped limit rs
-  unfolding limits listAt
+      limitsIn (λ m. map row (limitRows (7 + k) m t)) (limitsAt va n) ≡ mapped limit rs
+  unfolding limits limitsAt
   list-given zero n {rs} m e f = let z : rs ≡ none = cc in rw z refl
   list-given (suc a) n {rs} {t} m e f =
       let b = found-by k n (array sec (suc a) (4 * k * n)) (leb n room) e in
@@ -171,8 +171,8 @@ module _ (sec : Section) (h : Record) {rt₀ st₀ rt : List ℕ} {r₁ : Step} 
         pub lists-both :
             (a b : LimitList) →
             r₂ ≡ Done →
-            meantList a ≡ listAt (h .rotation) (h .«rotation_count») →
-            meantList b ≡ listAt (h .translation) (h .«translation_count») →
+            meantList a ≡ limitsAt (h .rotation) (h .«rotation_count») →
+            meantList b ≡ limitsAt (h .translation) (h .«translation_count») →
             ReadsJoints
             (listsRead sec (length rt₀ / 55) (length st₀ / 23) h)
             (Read

@@ -81,9 +81,9 @@ meantList Absent = none
 meantList (Of n) = some n
 
 -- the same by its pointer and its count
-unfoldable pub listAt : ℕ → ℕ → Option ℕ
-listAt zero n = none
-listAt (suc a) n = some n
+unfoldable pub limitsAt : ℕ → ℕ → Option ℕ
+limitsAt zero n = none
+limitsAt (suc a) n = some n
 
 -- ---- both lists
 

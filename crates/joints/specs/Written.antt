@@ -7,7 +7,6 @@ use Rattle.format.specs.Result.{Res, refused, done, _>>=_, need}
 use Rattle.format.specs.Refusal.{number}
 use Rattle.format.specs.Joints.{RotationLimit, rotationRow, rotationWidth, TranslationLimit, translationRow, translationWidth}
 use Rattle.format.specs.Joints.{limitRows, jointsWritten}
-use Rattle.tables.specs.Outcome.{sizeOf}
 use Rattle.joints.specs.declared.write.JointsWritten.{JointsWritten}
 use Rattle.joints.specs.declared.write.JointsWritten.the-variants.{Done, Refused}
 

@@ -7,7 +7,7 @@ ghost use Rattle.format.specs.Rows.{laid, cleared};
 ghost use Rattle.format.specs.Joints as Definitions;
 ghost use Rattle.blocks.specs.Places.{section};
 ghost use Rattle.joints.specs.Limit.{limitWords, Shaped};
-ghost use Rattle.joints.specs.Reading.{recordOf, FindsRecord, meantList, listAt, recordsTaken, Stage, listsRead, ReadsJoints};
+ghost use Rattle.joints.specs.Reading.{recordOf, FindsRecord, meantList, limitsAt, recordsTaken, Stage, listsRead, ReadsJoints};
 ghost use Rattle.joints.specs.Reading.{tableRead, meantJoints, rotationTable, translationTable};
 use crate::limits;
 use blocks::places;
@@ -141,7 +141,7 @@ fn read_limits(
 // ---- both lists
 
 fn list_at(va: u64, n: u16) -> LimitList
-    ensures { λ r. ⌜ meantList r ≡ listAt va n ⌝ }
+    ensures { λ r. ⌜ meantList r ≡ limitsAt va n ⌝ }
 {
     if va == 0 {
         return LimitList::Absent;

@@ -6,7 +6,7 @@ use mathlib.Core.Bool.{Bool, true, false, not}
 use Prim.Native.Nat.{ℕ, _%_, _^_, _≤_, _<_}
 use lib.Dec.{T, ltb, lt→ltb}
 use borrow.Author.Tests.{le-ltb}
-use lib.Ieee.{Float, nan, inf, fin, binary32, fits, isNan, nanBits, ne, ofBits, toBits}
+use lib.Ieee.{Float, nan, inf, fin, binary32, fits, isNan, nanBits, ne, toBits}
 use lib.Ieee.Bits.{ofBits-toBits, toBits-lt, toBits-ofBits, nanBits-is, nanBits-above}
 use lib.Ieee.Compare.{differs-from-itself}
 use Rattle.math.specs.Word.{floatOf, wordOf}

@@ -22,11 +22,11 @@ quat x y z w = vec4 (floatOf x) (floatOf y) (floatOf z) (floatOf w)
 abbrev pub matrixOf : List ℕ → Mat4
 matrixOf words = record { 0 = map floatOf words }
 
-abbrev pub words3 : Vec3 → List ℕ
-words3 v = wordOf v.x ∷ wordOf v.y ∷ wordOf v.z ∷ []
+abbrev pub vec3Words : Vec3 → List ℕ
+vec3Words v = wordOf v.x ∷ wordOf v.y ∷ wordOf v.z ∷ []
 
-abbrev pub words4 : Vec4 → List ℕ
-words4 v = wordOf v.x ∷ wordOf v.y ∷ wordOf v.z ∷ wordOf v.w ∷ []
+abbrev pub vec4Words : Vec4 → List ℕ
+vec4Words v = wordOf v.x ∷ wordOf v.y ∷ wordOf v.z ∷ wordOf v.w ∷ []
 
 -- (-2.62, 0.43, -0.67, 2.65)
 abbrev pub left : Vec4
@@ -49,9 +49,9 @@ matrix =
 
 pub record FloatControls : Type 0 where
   -- `Vec4::quat_mul`
-  pub multiplied : words4 (quatMul left right) ≡ 0xBDD0_48A8 ∷ 0xBF0E_DF94 ∷ 0xC103_6113 ∷ 0xC16B_05BC ∷ []
+  pub multiplied : vec4Words (quatMul left right) ≡ 0xBDD0_48A8 ∷ 0xBF0E_DF94 ∷ 0xC103_6113 ∷ 0xC16B_05BC ∷ []
   -- `Vec4::quat_rotate`
-  pub rotated : words3 (quatRotate left point) ≡ 0x4039_85E8 ∷ 0x4105_BD4C ∷ 0x3FE1_8728 ∷ []
+  pub rotated : vec3Words (quatRotate left point) ≡ 0x4039_85E8 ∷ 0x4105_BD4C ∷ 0x3FE1_8728 ∷ []
   -- `Mat4::from_quat_pos`
   pub placed : matrixWords (fromQuatPos left point) ≡
       0xBE89_02E0 ∷ 0xC0B9_BC02 ∷ 0x3F9D_AB9E ∷ 0 ∷ 0x3FA6_1E50 ∷ 0xC15A_068D ∷ 0xC167_652C ∷ 0 ∷

@@ -8,7 +8,6 @@ use mathlib.Core.List.{List, [], _∷_}
 use lib.ListN.{length, getD, take, drop}
 use lib.Dec.{T}
 use Rattle.format.specs.Result.{Res, refused, done}
-use Rattle.format.specs.Field.{Each}
 use Rattle.format.specs.Section.{Section, Place, window}
 use Rattle.format.specs.Bone.{Bone, Words3, Words4}
 use Rattle.format.specs.Chains.{Entry, entryOf, chains}

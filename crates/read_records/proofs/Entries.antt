@@ -25,7 +25,7 @@ use Rattle.blocks.specs.declared.places.Located.{Located}
 use Rattle.blocks.specs.declared.places.Located.the-variants.{System, Graphics, Refused}
 use Rattle.blocks.proofs.Search.{le-or-lt}
 use Rattle.blocks.proofs.Standing.{standing-done, refused-part}
-use Rattle.read_records.specs.Entry.{entryIn, ReadsEntry, fieldsOf, entryAt}
+use Rattle.read_records.specs.Entry.{entryIn, ReadsFields, fieldsOf, entryAt}
 use Rattle.read_records.specs.declared.entry.Read.{Read}
 use Rattle.read_records.specs.declared.entry.Entry.{Entry}
 
@@ -101,7 +101,7 @@ from-offset s o b room =
     (le-or-lt (o + 16) (length half))
 
 pub entry-read :
-    {s : RefT (List ℕ)} {o b : ℕ} {r : Read} → length (now s) < 2 ^ 64 → ReadsEntry (cursorAt s o b) r → fieldsOf r ≡ entryFrom (now s) o
+    {s : RefT (List ℕ)} {o b : ℕ} {r : Read} → length (now s) < 2 ^ 64 → ReadsFields (cursorAt s o b) r → fieldsOf r ≡ entryFrom (now s) o
 unfolding fieldsOf
 entry-read {s} {o} {b} room h = rw (h .tag, h .position, h .next, h .checked) (from-offset s o b room)
 

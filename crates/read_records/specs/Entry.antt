@@ -19,7 +19,7 @@ abbrev pub entryIn : List ℕ → Entry
 entryIn b = record { tag = entryTag b; position = entryPosition b; next = entryNext b }
 
 -- what a cursor reads, and whether it ran past the end
-pub record ReadsEntry (c : Cursor) (r : Read) : Type 0 where
+pub record ReadsFields (c : Cursor) (r : Read) : Type 0 where
   pub tag : r .tag ≡ readBy (fieldAt 4) c
   pub position : r .position ≡ readBy (fieldAt 4) (taken 4 c)
   pub next : r .next ≡ readBy (fieldAt 8) (taken 4 (taken 4 c))

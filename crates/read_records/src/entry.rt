@@ -2,7 +2,7 @@
 ghost use mathlib.Core.Path.{_≡_};
 ghost use Rattle.blocks.specs.Cursor.{cursorAt};
 ghost use Rattle.blocks.specs.Places.{section};
-ghost use Rattle.read_records.specs.Entry.{entryAt, ReadsEntry, fieldsOf, meantFields};
+ghost use Rattle.read_records.specs.Entry.{entryAt, ReadsFields, fieldsOf, meantFields};
 use blocks::cursor::Cursor;
 use blocks::cursor::CursorCheck;
 use blocks::places;
@@ -33,7 +33,7 @@ struct Read {
 
 // The reads of the entry at an offset of a half, by a cursor.
 fn read_entry(half: &[u8], at: usize, base: u64) -> Read
-    ensures { λ r. ⌜ ReadsEntry (cursorAt (half .entry) at base) r ⌝ }
+    ensures { λ r. ⌜ ReadsFields (cursorAt (half .entry) at base) r ⌝ }
 {
     let mut c = Cursor::new(half, at, base);
     let tag = c.u32();

@@ -1,16 +1,16 @@
 -- Laws of the parts of a case and of the numbers that a part holds, for any width. Assumes nothing.
-use Prim.Native.Nat.{ℕ, zero, suc, _+_, _-_, _*_, _/_, _≤_, _<_, min}
+use Prim.Native.Nat.{ℕ, suc, _+_, _-_, _*_, _/_, _≤_, _<_, min}
 use native.Mathlib.Omega.{arith}
 use native.Mathlib.Nat.{le-div-iff-mul-le, mul-comm, sub-zero}
 use mathlib.Core.Path.{_≡_, refl, sym, ap, _∙_}
 use mathlib.Core.Bool.{Bool, true, false}
-use mathlib.Core.List.{List, [], _++_}
-use lib.Dec.{leb, eqb}
-use lib.ListN.{length, getD, take, drop, set, replicate, length-set, length-append, length-replicate, List·getD-eq-default}
+use mathlib.Core.List.{List, []}
+use lib.Dec.{eqb}
+use lib.ListN.{length, getD, take, drop, set, length-set, length-append, length-replicate, List·getD-eq-default}
 use lib.Seq.{getD-take, getD-set-same, getD-set-other, ext-getD, length-take-le}
 use borrow.Author.Tests.{le-leb, lt-leb, eq-eqb, ne-eqb}
 use borrow.Author.Count.{below-none, below-more}
-use Rattle.format.specs.Field.{fieldAt, field, stands, orZero, whichList, words}
+use Rattle.format.specs.Field.{fieldAt, stands, orZero, whichList}
 use Rattle.format.specs.Rows.{laid}
 use Rattle.format.proofs.Fields.{words-at, length-words}
 use Rattle.replay_sample.specs.Parts.{partOf, numbers}

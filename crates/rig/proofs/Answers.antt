@@ -4,7 +4,7 @@ use mathlib.Core.Path.{_≡_, refl, sym, ap, _∙_}
 use mathlib.Core.Option.{Option, none, some}
 use mathlib.Core.List.{List, [], _∷_, map}
 use lib.ListN.{replicate, length-map}
-use Rattle.format.specs.Result.{Res, refused, done}
+use Rattle.format.specs.Result.{Res, refused, done, status}
 use Rattle.format.specs.Refusal.{number}
 use Rattle.format.specs.declared.Refusal.{Refusal}
 use Rattle.format.specs.Joints.{Joints, rotationRow, rotationWidth, translationRow, translationWidth, limitRows}
@@ -13,7 +13,7 @@ use Rattle.joints.proofs.BothKinds.{length-limitRows}
 use Rattle.joints.specs.declared.read.Joints as declared
 use Rattle.joints.specs.declared.read.JointsRead.{JointsRead}
 use Rattle.joints.specs.declared.read.JointsRead.the-variants as answer
-use Rattle.rig_answers.specs.Answer.{status, counted, readStatus, given, numberIf, present}
+use Rattle.rig_answers.specs.Answer.{counted, readStatus, given, numberIf, present}
 use Rattle.rig.specs.Answer.{limitCount, jointsFields}
 
 pub status-done : {A : Type 0} {x : Res A} {a : A} → done a ≡ x → 0 ≡ status x

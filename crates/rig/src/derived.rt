@@ -3,6 +3,7 @@
 ghost use mathlib.Core.Path.{_≡_};
 ghost use mathlib.Core.List.{flatMap};
 ghost use lib.ListN.{length};
+ghost use Rattle.format.specs.Result.{status};
 ghost use Rattle.format.specs.Chains.{numHashBuckets};
 ghost use Rattle.format.specs.Deriving.{tags};
 ghost use Rattle.derive_chains.specs.ChainRows.{bucketRows, entryRows};
@@ -11,7 +12,7 @@ ghost use Rattle.tables.specs.Outcome.{leaves};
 ghost use Rattle.derive_chains.specs.Tagging.{tagsResult};
 ghost use Rattle.derive_children.specs.Indexing.{indicesResult, parentsOf, childrenOf};
 ghost use Rattle.derive_matrices.specs.Transforming.{matricesResult, MatrixRows};
-ghost use Rattle.rig_answers.specs.Answer.{status, counted};
+ghost use Rattle.rig_answers.specs.Answer.{counted};
 use derive_chains::tags::Tagged;
 use derive_children::indices::Indexed;
 use derive_matrices::matrices::Transformed;

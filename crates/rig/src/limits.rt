@@ -2,13 +2,13 @@
 // the refusal.
 ghost use mathlib.Core.Path.{_≡_};
 ghost use lib.ListN.{length};
-ghost use Rattle.format.specs.Result.{done};
+ghost use Rattle.format.specs.Result.{done, status};
 ghost use Rattle.format.specs.Joints.{freshSlots};
 ghost use Rattle.format.specs.Rows.{laid};
 ghost use Rattle.joints.specs.Reading.{meantList, tableRead, rotationTable, translationTable};
 ghost use Rattle.joints.specs.Written.{tableWritten, leftIn};
 ghost use Rattle.tables.specs.Outcome.{sizeOf};
-ghost use Rattle.rig_answers.specs.Answer.{status, counted, readStatus, given, numberIf, present};
+ghost use Rattle.rig_answers.specs.Answer.{counted, readStatus, given, numberIf, present};
 ghost use Rattle.rig.specs.Answer.{jointsFields};
 use joints::read::JointsRead;
 use joints::read::LimitList;

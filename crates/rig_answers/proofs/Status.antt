@@ -6,10 +6,10 @@ use mathlib.Core.Bool.{Bool, true, false, not}
 use mathlib.Core.Option.{Option, none, some}
 use mathlib.Core.List.{List}
 use lib.Dec.{T}
-use Rattle.format.specs.Result.{Res, refused, done}
+use Rattle.format.specs.Result.{Res, refused, done, status}
 use Rattle.format.specs.CallRefusals.{oneOf, RefusesOnly}
 use Rattle.format.proofs.CallRefusals.{only-done, only-refused}
-use Rattle.rig_answers.specs.Answer.{status, readStatus}
+use Rattle.rig_answers.specs.Answer.{readStatus}
 use Rattle.rig_answers.specs.Status.{sure, Tells, Statuses}
 
 both : (b : Bool) → T (not b) → T b → ⊥

@@ -3,7 +3,7 @@ use Prim.Native.Nat.{ℕ}
 use mathlib.Core.Path.{_≡_, ap, _∙_}
 use mathlib.Core.Option.{Option, some}
 use mathlib.Core.List.{List, [], _∷_}
-use Rattle.format.specs.Result.{Res, done}
+use Rattle.format.specs.Result.{Res, done, status}
 use Rattle.format.specs.Layout.{Bytes}
 use Rattle.format.specs.Section.{Section}
 use Rattle.format.specs.Tables.{SkeletonRow, noRows}
@@ -21,7 +21,7 @@ use Rattle.write.specs.declared.Written.{Written}
 use Rattle.check_steps.specs.Steps.{checkedOf}
 use Rattle.check_steps.specs.declared.Checked.{Checked}
 use Rattle.verify.specs.Checks.{leavesBy, Checks}
-use Rattle.rig_answers.specs.Answer.{status, counted, readStatus, given, numberIf, present}
+use Rattle.rig_answers.specs.Answer.{counted, readStatus, given, numberIf, present}
 use Rattle.rig_answers.specs.Told.{skeletonFields, ReadTold, WriteTold, Told, SearchTold, CheckTold}
 use Rattle.format.specs.Tables.{partLength}
 

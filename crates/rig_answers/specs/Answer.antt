@@ -4,11 +4,6 @@ use mathlib.Core.Bool.{Bool, true, false}
 use mathlib.Core.Option.{Option, none, some}
 use Rattle.format.specs.Result.{Res, refused, done}
 
--- 0 where the call is done, else the refusal's number
-abbrev pub status : {A : Type 0} → Res A → ℕ
-status (done a) = 0
-status (refused n) = n
-
 -- the count, 0 after a refusal
 abbrev pub counted : Res ℕ → ℕ
 counted (done n) = n

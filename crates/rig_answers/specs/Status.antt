@@ -7,9 +7,9 @@ use mathlib.Core.Bool.{not}
 use mathlib.Core.Option.{Option, none, some}
 use mathlib.Core.List.{List}
 use lib.Dec.{T}
-use Rattle.format.specs.Result.{Res, refused, done}
+use Rattle.format.specs.Result.{Res, refused, done, status}
 use Rattle.format.specs.CallRefusals.{oneOf, RefusesOnly}
-use Rattle.rig_answers.specs.Answer.{status, readStatus}
+use Rattle.rig_answers.specs.Answer.{readStatus}
 
 -- the outcome is a result
 pub record Result {A : Type 0} (w : Res (Option A)) : Type 0 where

@@ -4,7 +4,7 @@ use mathlib.Core.Path.{_≡_}
 use mathlib.Core.Option.{Option, none, some}
 use mathlib.Core.List.{List, [], _∷_}
 use lib.ListN.{replicate, getD}
-use Rattle.format.specs.Result.{Res, refused, done}
+use Rattle.format.specs.Result.{Res, refused, done, status}
 use Rattle.format.specs.Bone.{Words4, words4}
 use Rattle.format.specs.Layout.{Bytes}
 use Rattle.format.specs.Section.{Section}
@@ -18,7 +18,7 @@ use Rattle.write.specs.Outcome as writing
 use Rattle.tables.specs.Outcome.{sizeOf}
 use Rattle.tables.specs.Working.{Working, roomIn, Zeroed}
 use Rattle.verify.specs.Checks.{leavesBy}
-use Rattle.rig_answers.specs.Answer.{status, counted, readStatus, given, numberIf, present}
+use Rattle.rig_answers.specs.Answer.{counted, readStatus, given, numberIf, present}
 
 -- ---- reading
 

@@ -2,14 +2,14 @@
 // a count or a position.
 ghost use mathlib.Core.Path.{_≡_};
 ghost use mathlib.Core.Option.{some};
-ghost use Rattle.format.specs.Result.{done};
+ghost use Rattle.format.specs.Result.{done, status};
 ghost use Rattle.read.specs.Parts.{meantPart};
 ghost use Rattle.read.specs.Reads.{meantSkeleton, meantRead};
 ghost use Rattle.write.specs.Outcome.{writtenOf};
 ghost use Rattle.lookup.specs.Looked.{lookedOf};
 ghost use Rattle.search.specs.Searched.{searchedOf};
 ghost use Rattle.check_steps.specs.Steps.{checkedOf};
-ghost use Rattle.rig_answers.specs.Answer.{status, counted, readStatus, given, numberIf, present};
+ghost use Rattle.rig_answers.specs.Answer.{counted, readStatus, given, numberIf, present};
 ghost use Rattle.rig_answers.specs.Told.{skeletonFields};
 ghost use Rattle.format.specs.Tables.{partLength};
 use check_steps::Checked;

@@ -9,7 +9,7 @@ use mathlib.Core.Option.{Option, none, some}
 use mathlib.Core.List.{List}
 use lib.ListN.{length, getD}
 use lib.Dec.{T}
-use Rattle.format.specs.Result.{Res, refused, done}
+use Rattle.format.specs.Result.{Res, refused, done, status}
 use Rattle.format.specs.Section.{Section}
 use Rattle.format.specs.Bone.{words4}
 use Rattle.format.specs.Deriving.{tags}
@@ -37,12 +37,12 @@ use Rattle.write.specs.declared.Written.the-variants.{Done}
 use Rattle.joints.specs.Written.{tableWritten}
 use Rattle.verify.specs.Checks.{leavesBy}
 use Rattle.read_laws.specs.Bytes.{Bytes8, SectionBytes}
-use Rattle.rig_answers.specs.Answer.{status, readStatus, given}
+use Rattle.rig_answers.specs.Answer.{readStatus, given}
 use Rattle.rig_answers.specs.Status.{sure, Tells}
 use Rattle.rig_answers.specs.Told.{freeOf, skeletonFields, WriteTold, Told, CheckTold}
 use Rattle.rig_answers.proofs.Status as answers
 use Rattle.theorems.specs.Typed.{Words32}
-use Rattle.theorems.specs.Exports.{Statuses, RightTold, WrittenBackTold, Exports}
+use Rattle.theorems.specs.Exports.{ExportStatuses, RightTold, WrittenBackTold, Exports}
 use Rattle.theorems.proofs.Fitting.{front-bytes}
 use Rattle.theorems.proofs.Refusals.{deriving-only, outcome-only, answer-only, joints-written-only}
 use Rattle.theorems.proofs.Theorems.{found-at, reads-back, check-accepts, reading, counts, same-bones}
@@ -83,7 +83,7 @@ writing lent x n bones free r count out out′ k =
     let w = outcome lent (roomIn x) (length out) n bones (freeOf free) in
     told-sure writingRefusals tt tt w r (k .answer ∙ size-status w) (outcome-only lent (roomIn x) (length out) n bones (freeOf free))
 
-statuses : Statuses
+statuses : ExportStatuses
 statuses =
     record {
       boneTags = λ n bones buckets entries r e. told-sure derivingRefusals tt tt _ r e (deriving-only n _ _);

@@ -1,6 +1,6 @@
 pub mod Fitting
 pub mod Answers
-pub mod Chained
+pub mod TagChains
 pub mod Theorems
 pub mod Refusals
 pub mod Exports

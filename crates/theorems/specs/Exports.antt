@@ -5,6 +5,7 @@ use mathlib.Core.Logic.{_↔_, _⊎_}
 use Prim.Native.Nat.{ℕ, _≤_}
 use mathlib.Core.List.{List}
 use lib.ListN.{length, getD}
+use Rattle.format.specs.Result.{status}
 use Rattle.format.specs.Section.{Section}
 use Rattle.format.specs.Bone.{words4}
 use Rattle.format.specs.Deriving.{tags}
@@ -32,7 +33,7 @@ use Rattle.write.specs.Outcome.{outcome}
 use Rattle.joints.specs.Reading.{tableRead}
 use Rattle.joints.specs.Written.{tableWritten}
 use Rattle.read_laws.specs.Bytes.{Bytes8, SectionBytes}
-use Rattle.rig_answers.specs.Answer.{status, readStatus}
+use Rattle.rig_answers.specs.Answer.{readStatus}
 use Rattle.rig_answers.specs.Status.{sure, Tells}
 use Rattle.rig_answers.specs.Told.{freeOf, ReadTold, WriteTold, Told, SearchTold, CheckTold}
 use Rattle.theorems.specs.Typed.{Words32}
@@ -40,7 +41,7 @@ use Rattle.theorems.specs.Theorems.{HoldsReading, SameBones}
 
 -- ---- demand 1: 0 exactly for a result, 100 exactly for none, else the refusal's number, one of the call's list
 
-pub record Statuses : Type 0 where
+pub record ExportStatuses : Type 0 where
   -- `rig_build_bone_tags`, `rig_build_indices`, `rig_build_transformations`
   pub boneTags :
       (n bones buckets entries r : ℕ) → r ≡ status (tagsResult n bones buckets entries) →
@@ -102,7 +103,7 @@ pub record WrittenBackTold (lent : Section) (a : List ℕ) (n : ℕ) (free : Lis
       (words4 (getD fields 1 0) (getD fields 2 0) (getD fields 3 0) (getD fields 4 0) ≡ freeOf free)
 
 pub record Exports : Type 0 where
-  pub statuses : Statuses
+  pub statuses : ExportStatuses
   -- Exact: `rig_check`, lent the tables that docs/FORMAT.md sizes, gives 0 exactly when the section reads and its chains, parents, children
   -- and matrices equal those derived from the bones read
   pub exact :

@@ -1,5 +1,5 @@
 pub mod Typed
-pub mod Chained
+pub mod TagChains
 pub mod Theorems
 pub mod Refusals
 pub mod Exports

@@ -3,15 +3,13 @@
 -- Assumes nothing.
 use mathlib.Core.Path.{_≡_, refl, sym, ap, _∙_}
 use mathlib.Core.List.{List, [], _∷_, _++_, append-nil, append-assoc}
-use Prim.Native.Nat.{ℕ, zero, suc, _+_, _-_, _*_, _≤_, _<_}
-use native.Mathlib.Nat.{add-zero, sub-zero, mul-zero, mul-suc, add-assoc}
-use native.Mathlib.Numerals.{add-one}
+use Prim.Native.Nat.{ℕ, zero, suc, _+_, _-_, _≤_, _<_}
+use native.Mathlib.Nat.{add-zero, sub-zero}
 use native.Mathlib.Omega.{arith}
-use lib.ListN.{length, getD, take, drop, set, replicate, length-append, length-drop, take-append-drop, drop-of-length-le}
-use lib.Seq.{sets, length-sets, drop-cons, set-set, set-comm, take-take, length-take-le, getD-take, getD-drop}
-use Rattle.format.specs.Field.{bytes, wordBytes}
+use lib.ListN.{length, take, drop, set, replicate, length-append, length-drop, take-append-drop, drop-of-length-le}
+use lib.Seq.{sets, length-sets, set-set, set-comm, take-take}
+use Rattle.format.specs.Field.{bytes}
 use Rattle.format.specs.Layout.{fill, pad16}
-use Rattle.format.proofs.Fields.{length-bytes}
 use Rattle.fields.proofs.Stores.{sets-append, part-sets-same}
 use Rattle.fields.proofs.RunLaws.{Left, left-none, left-all, left-more, length-part}
 use Rattle.write.specs.Names.{StoredTo}

@@ -3,7 +3,7 @@
 use Prim.Native.Nat.{ℕ, _+_, _*_, _≤_, min}
 use mathlib.Core.List.{List, [], _∷_}
 use Rattle.format.specs.Section.{window}
-use Rattle.format.specs.Bone.{Words4, words4}
+use Rattle.format.specs.Bone.{Words4}
 use Rattle.format.specs.Layout as Layout
 use Rattle.format.specs.Layout.{base, pointer}
 use Rattle.write.specs.declared.starts.Starts.{Starts}

@@ -64,7 +64,7 @@ fn ours_of(library: &dyn Checks, s: &Section, tags: impl Iterator<Item = u16>, m
     intact
 }
 
-/// 01's lookup over the published reader.
+/// The lookup of docs/FORMAT.md over the published reader.
 pub fn rust(i: &LookupInput) -> LookupAnswer {
     match lookup(&i.section.system, &i.section.graphics, i.section.root, i.tag as u32) {
         Found::None => LookupAnswer::none(),

@@ -22,7 +22,7 @@ impl Call {
         }
     }
 
-    /// The words of each table that `n` bones need (01, "Who can cause a refusal"), the bones table apart.
+    /// The words of each table that `n` bones need (docs/FORMAT.md, "Who can cause a refusal"), the bones table apart.
     pub fn sizes(self, n: usize) -> Vec<usize> {
         let [buckets, entries, inverse, local, parents, children, pending] = tables::derived(n);
         match self {
@@ -57,7 +57,7 @@ impl DeriveInput {
         sizes.iter().zip(self.room).map(|(&size, room)| size.saturating_add_signed(room)).collect()
     }
 
-    /// 2, then 1, as 01 has it.
+    /// 2, then 1, as docs/FORMAT.md has it.
     pub fn status(&self) -> u32 {
         let fits = || {
             let mut tables = self.lengths().into_iter().zip(self.call.sizes(self.n));

@@ -123,7 +123,7 @@ impl Runs<'_> {
         Ok(())
     }
 
-    /// 01's trial rigs; a bone that is its own child; a circle and a bone under it; a pending list of more than
+    /// The trial rigs of docs/FORMAT.md; a bone that is its own child; a circle and a bone under it; a pending list of more than
     /// 4 * n bones.
     fn trial(&self, tally: &mut Tally) -> Result<(), Difference> {
         let by_position = |parents: &[i16]| (0..).zip(parents.iter().copied()).collect::<Vec<(i16, i16)>>();

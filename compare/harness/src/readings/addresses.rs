@@ -1,4 +1,4 @@
-//! READINGS, "Addresses".
+//! Where addresses lead.
 
 use super::ask::{bones, joints_refusal, reading, refusal};
 use cases::records::bone;

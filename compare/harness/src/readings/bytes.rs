@@ -1,4 +1,4 @@
-//! READINGS, "Bytes that must exist": shown by cutting sections.
+//! The bytes that must exist, shown by cutting sections.
 
 use super::ask::{cut, joints_refusal, reading, refusal, write};
 use cases::records::{bone, joints, matrix, skeleton};

@@ -1,4 +1,4 @@
-//! READINGS, "Deriving": chains, parents, children and the walk.
+//! Deriving: chains, parents, children and the walk.
 
 use super::ask::{build_bone_tags, build_indices, build_transformations};
 use crate::model;

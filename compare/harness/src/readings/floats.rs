@@ -1,4 +1,4 @@
-//! READINGS, "Deriving": float arithmetic.
+//! Deriving: float arithmetic.
 
 use super::ask::build_transformations;
 use cases::trial::{plain_bone, NONE, ONE};

@@ -1,4 +1,4 @@
-//! READINGS, "Numbers confirmed by running".
+//! Numbers confirmed by running.
 
 use super::ask::{fresh_rotation_limit, num_hash_buckets, rage_joaat};
 

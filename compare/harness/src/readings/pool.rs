@@ -1,4 +1,4 @@
-//! READINGS, "The pool".
+//! The pool.
 
 use super::ask::{bones, read, reading, refusal};
 use cases::hand::bone_at;

@@ -1,4 +1,4 @@
-//! READINGS, "Where refusal 1 is met". The Rust has no lent tables: its answer in ample ones is what is not yet looked at
+//! Where refusal 1 is met. The Rust has no lent tables: its answer in ample ones is what is not yet looked at
 //! where 1 comes first.
 
 use super::ask;

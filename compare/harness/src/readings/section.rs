@@ -1,4 +1,4 @@
-//! READINGS, "Lookup, check, program": the lines that rest on the published reading.
+//! Lookup, check, program: the lines that rest on the published reading.
 
 use super::ask::{bones, check, rage_joaat, refusal, write};
 use crate::model::joaat;

@@ -1,4 +1,4 @@
-//! The trial rigs that 01 lists, run with the published Rust.
+//! The trial rigs that docs/FORMAT.md lists, run with the published Rust.
 
 use super::ask::{build_bone_tags, build_indices, build_transformations, check, num_hash_buckets, reading, refusal, write};
 use cases::records::skeleton as s;

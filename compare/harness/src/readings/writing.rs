@@ -1,4 +1,4 @@
-//! READINGS, "Writing": sections made by the published `Block::write` bodies at 01's places.
+//! Writing: sections made by the published `Block::write` bodies at the places of docs/FORMAT.md.
 
 use super::ask::{fresh_rotation_limit, joints_read, joints_write, reading, write};
 use cases::records::skeleton as s;

@@ -51,7 +51,7 @@ impl WriteInput {
         std::array::from_fn(|table| sizes[table].saturating_add_signed(self.room[table]))
     }
 
-    /// The published section of the bones asked for, whatever the buffer. Refusals in 01's order: 2; 1 for the table of bones;
+    /// The published section of the bones asked for, whatever the buffer. Refusals in the order of docs/FORMAT.md: 2; 1 for the table of bones;
     /// 4; 1 for the working tables; 3.
     pub fn section(&self) -> Published {
         self.tested(|bones| match write(bones, self.free) {

@@ -37,7 +37,7 @@ fn exact(rng: &mut Rng, bones: &[Bone]) -> (WriteInput, Published) {
 /// A condition and its number.
 type Condition = (u32, fn(&mut WriteInput));
 
-/// 01's refusals in its order; that of the child entries is the rig's own.
+/// The refusals in their order; that of the child entries is the rig's own.
 const CONDITIONS: [Condition; 5] = [
     (2, |i| (i.n, i.room) = (MOST + 1, [isize::MIN; 7])),
     (1, |i| i.bones.truncate(i.bones.len() - 1)),

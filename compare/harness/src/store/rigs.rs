@@ -32,7 +32,7 @@ fn runs(answers: [u32; 3]) -> Vec<Run> {
     calls.into_iter().zip(answers).map(|(operation, answer)| Run::longer(operation, answer)).collect()
 }
 
-/// No bones; 01's trial rigs; a bone that is its own child; a circle and a bone under it; roots that are negative
+/// No bones; the trial rigs of docs/FORMAT.md; a bone that is its own child; a circle and a bone under it; roots that are negative
 /// otherwise; a pending list of more than 4 * n bones; three tags in one bucket; a singular rotation.
 fn by_hand() -> Vec<Vec<Bone>> {
     let by_position = |parents: &[i16]| (0..).zip(parents.iter().copied()).collect::<Vec<(i16, i16)>>();
@@ -57,7 +57,7 @@ fn by_hand() -> Vec<Vec<Bone>> {
 fn derived(number: u32, bones: &[Bone]) -> Stored {
     let n = bones.len();
     let (buckets, entries) = rows::chains(&build_bone_tags(bones), n);
-    // 01 sizes the child list by the bones, whatever it holds
+    // docs/FORMAT.md sizes the child list by the bones, whatever it holds
     let (indices, (parents, children)) = match 8 * (n + 1) {
         length if length > HALVES => (TABLE_TOO_SHORT, Default::default()),
         _ => (DONE, build_indices(bones)),

@@ -45,6 +45,7 @@ use denote.Triple.Entry.{onEntry}
 use denote.Triple.Spec.{tripleOf}
 use denote.Triple.Table.{cited}
 use denote.Triple.Walked.{says, Stays, stay-none, stay-none-slice, walkOf, goes-none, goes-none-slice, ends-at}
+use Rattle.format.specs.Result.{status}
 use Rattle.format.specs.Field.{fieldAt}
 use Rattle.format.specs.declared.Words3.{Words3}
 use Rattle.format.specs.declared.Words4.{Words4}
@@ -103,7 +104,7 @@ use Rattle.blocks.proofs.cursor.Cursor.check.Symbol as check-def
 use Rattle.blocks.proofs.cursor.Cursor.check.Symbol.{name as #check}
 use Rattle.blocks.proofs.cursor.Cursor.check.Met as check-thm
 use Rattle.cursors.specs.Turns.{byteAt, halfAt, signedAt, wordAt, skipAt, longAt, floatAt, threeFrom, fourAt, lastAt}
-use Rattle.cursors.specs.Turns.{statusOf, inTurn, numbersOf}
+use Rattle.cursors.specs.Turns.{inTurn, numbersOf}
 use Rattle.cursors.specs.declared.Turns.{Turns}
 use Rattle.cursors.proofs.Turns as N
 use Rattle.cursors.proofs.Turns.Laws as N′
@@ -287,7 +288,7 @@ module _ {M : Type 1} (𝓤 : URA M) (H : Heap 𝓤) (A : Atoms 𝓤) (W : Given
         e₀ i ∷ e₁ i ∷ e₂ i ∷ e₃ i ∷ e₅ i ∷ e₆ i ∷
         e₇ i .x ∷ e₇ i .y ∷ e₇ i .z ∷
         e₈ i .x ∷ e₈ i .y ∷ e₈ i .z ∷ e₈ i .w ∷
-        e₉ i ∷ statusOf (e₁₀ i) ∷ []
+        e₉ i ∷ status (e₁₀ i) ∷ []
 
     exits : (u : Val) → byte < 2 ^ 8 → half < 2 ^ 16 → signed < 2 ^ 16 → word < 2 ^ 32 → long < 2 ^ 64 → float < 2 ^ 32 → {y z : Val}
         → Is N3.the-row three (y ∷ []) → Is N4.the-row four (z ∷ []) → va < 2 ^ 64 → numbersOf made ≡ inTurn s o b n

@@ -1,6 +1,6 @@
 -- `replay_sample::count` meets its contract. Assumes nothing.
 use borrow.Author.Needs.{needs}
-use Prim.Native.Nat.{ℕ, _+_, min}
+use Prim.Native.Nat.{ℕ}
 use mathlib.Core.Path.{ap, sym}
 use denote.Ref.{now}
 use lib.ListN.{set}

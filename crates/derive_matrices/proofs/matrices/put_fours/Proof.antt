@@ -29,7 +29,12 @@ put-four-requires c κs =
     (s .pre .0, omega (arith, c .before .loop-test .taken, l .loop .inv .0), omega (arith, l .loop .inv .1 .same, s .pre .1))
 
 add-p : tie.Need-add-p Inv-loop μ-loop
-add-p c = omega (arith, c .before .before .before .before .loop-test .taken, c .before .before .before .before .before .loop .inv .0, c .before .before .before .before .before .before .before .before .fits .n)
+add-p c = omega (
+  arith,
+  c .before .before .before .before .loop-test .taken,
+  c .before .before .before .before .before .loop .inv .0,
+  c .before .before .before .before .before .before .before .before .fits .n,
+)
 
 loop-less : tie.Need-loop-less Inv-loop μ-loop
 loop-less c = omega (arith, c .before .before .before .before .loop-test .taken, c .before .before .before .before .before .loop .inv .0)

@@ -82,10 +82,17 @@ slice-aggregate-raise-lanes-2 : tie.Need-slice-aggregate-raise-lanes-2 Inv-loop 
 slice-aggregate-raise-lanes-2 c = search needs
 
 raise-lanes-requires : tie.Need-raise-lanes-requires Inv-loop μ-loop
-raise-lanes-requires c κs = (c .before .before .before .before .before .before .before .before .before .before .loop .inv .size, ap length (c .before .before .lanes-of2 .ensures))
+raise-lanes-requires c κs = (
+  c .before .before .before .before .before .before .before .before .before .before .loop .inv .size,
+  ap length (c .before .before .lanes-of2 .ensures),
+)
 
 add-steps : tie.Need-add-steps Inv-loop μ-loop
-add-steps c = omega (arith, c .before .before .before .before .before .before .before .before .before .before .before .loop-test .taken, c .before .before .before .before .before .before .before .before .before .before .before .before .before .before .before .fits .n)
+add-steps c = omega (
+  arith,
+  c .before .before .before .before .before .before .before .before .before .before .before .loop-test .taken,
+  c .before .before .before .before .before .before .before .before .before .before .before .before .before .before .before .fits .n,
+)
 
 loop-less : tie.Need-loop-less Inv-loop μ-loop
 loop-less c = omega (arith, c .before .before .before .before .before .before .before .before .before .before .before .loop-test .taken)

@@ -17,7 +17,8 @@ returns : tie.Need-returns
 returns c =
     let f = c .before in
     let a = f .before .before .before .args in
-    one-off (stands (2 * length (now (a .h))) (now (a .d)) (a .at)) (sets (now (a .d)) (a .at) (wordBytes 2 (now (a .h)))) (now (a .d)) (sym (f .run-stands .ensures)) (c .if1 .taken)
+    one-off (stands (2 * length (now (a .h))) (now (a .d)) (a .at)) (sets (now (a .d)) (a .at) (wordBytes 2 (now (a .h)))) (now (a .d))
+    (sym (f .run-stands .ensures)) (c .if1 .taken)
 
 put-half-run-requires : tie.Need-put-half-run-requires
 put-half-run-requires c κs =
@@ -33,7 +34,8 @@ returns-2 c =
     let k = c .before .before in
     let f = k .before .before .before in
     let a = f .before .before .before .args in
-    one-on (stands (2 * length (now (a .h))) (now (a .d)) (a .at)) (sets (now (a .d)) (a .at) (wordBytes 2 (now (a .h)))) (now (a .d)) (sym (f .run-stands .ensures)) (k .before .before .if1 .left) (k .put-half-run .ensures)
+    one-on (stands (2 * length (now (a .h))) (now (a .d)) (a .at)) (sets (now (a .d)) (a .at) (wordBytes 2 (now (a .h)))) (now (a .d))
+    (sym (f .run-stands .ensures)) (k .before .before .if1 .left) (k .put-half-run .ensures)
 
 pub put-halves-spec : {M : Type 1} → statement M
 put-halves-spec = tie.close (tie.spec run-stands-requires returns put-half-run-requires same-length returns-2)

@@ -70,7 +70,7 @@ use Rattle.blocks.proofs.cursor.Cursor.check as check
 use Rattle.blocks.proofs.cursor.Cursor.check.Symbol as check-def
 use Rattle.blocks.proofs.cursor.Cursor.check.Symbol.{name as #check}
 use Rattle.blocks.proofs.cursor.Cursor.check.Met as check-thm
-use Rattle.read_records.specs.Entry.{ReadsEntry}
+use Rattle.read_records.specs.Entry.{ReadsFields}
 use Rattle.read_records.specs.declared.entry.Read.{Read}
 use Rattle.read_records.proofs.entry.Read as N
 use Rattle.read_records.proofs.entry.Read.Laws as N′
@@ -171,11 +171,11 @@ module _ {M : Type 1} (𝓤 : URA M) (H : Heap 𝓤) (A : Atoms 𝓤) (W : Given
       (fsep (u32 .own position (vss .1 .0)) (fsep (u64 .own next (vss .1 .1 .0)) (fsep (S.the-row .own t (vss .1 .1 .1 .0)) ftrue)))
 
   answer : (tag position next : ℕ) (t : CursorCheck) → tag ≡ readBy (fieldAt 4) h₁ → position ≡ readBy (fieldAt 4) h₂
-      → next ≡ readBy (fieldAt 8) h₃ → checkOf t ≡ unmarked h₄ → ReadsEntry h₁ (made tag position next t)
+      → next ≡ readBy (fieldAt 8) h₃ → checkOf t ≡ unmarked h₄ → ReadsFields h₁ (made tag position next t)
   answer tag position next t e₁ e₂ e₃ e₄ = record { tag = e₁; position = e₂; next = e₃; checked = e₄ }
 
   exits : (tag position next : ℕ) (t : CursorCheck) (u : Val) → tag < 2 ^ 32 → position < 2 ^ 32 → next < 2 ^ 64
-      → ReadsEntry h₁ (made tag position next t)
+      → ReadsFields h₁ (made tag position next t)
       → ent 𝓤 (⋆ 𝓤 H A (‵ (S.the-row .own t (u ∷ [])) ∷ (‵ (flft κ q) ⊛ ‵ ftrue) ∷ ‵ Own ∷ [])) (Post (mach tag position next u))
   exits tag position next t u f₁ f₂ f₃ e =
       qed W (‵ (S.the-row .own t (u ∷ [])) ∷ (‵ (flft κ q) ⊛ ‵ ftrue) ∷ ‵ Own ∷ []) ∵

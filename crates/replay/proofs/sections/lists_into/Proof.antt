@@ -1,5 +1,4 @@
 -- `replay::sections::lists_into` is safe and ends: each front that is lent is within its table. Assumes nothing.
-use borrow.Author.Needs.{needs}
 use Rattle.replay.proofs.sections.lists_into.Statement.{statement}
 use Rattle.replay.proofs.sections.lists_into.Tie as tie
 

@@ -60,7 +60,8 @@ returns-2 : tie.Need-returns-2
 returns-2 c =
     let r = c .before .before .before .before .before .before .before .before .before .before .before .before .before .before .read in
     let k = r .ensures in
-    let a = joints-read (r .last .1 .1 .1 .0) (r .last .1 .1 .1 .1 .0) (c .before .before .before .before .before .before .before .before .j .given .1) (k .0)
+    let a = joints-read (r .last .1 .1 .1 .0) (r .last .1 .1 .1 .1 .0)
+    (c .before .before .before .before .before .before .before .before .j .given .1) (k .0)
     (c .before .before .before .before .stands .ensures) (c .before .before .before .limit-count .ensures)
     (c .before .before .stands2 .ensures) (c .before .limit-count2 .ensures) in
     (a .0, (a .1, k .1))

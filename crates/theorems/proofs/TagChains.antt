@@ -20,7 +20,7 @@ use Rattle.derive_chains.specs.Tagging.{tagsHold}
 use Rattle.derive_chains.specs.declared.tags.Tagged.the-variants.{Done}
 use Rattle.check_lists.specs.Chained.{entriesIn}
 use Rattle.check_stages.proofs.Derived.{chains-derived}
-use Rattle.theorems.specs.Chained.{BuildsTags, Chained}
+use Rattle.theorems.specs.TagChains.{BuildsTags, TagChains}
 
 following :
     (bones : List ℕ) (n count : ℕ) (b₀ e₀ b e : List ℕ) → BuildsTags bones n (Done count) b₀ e₀ b e →
@@ -38,5 +38,5 @@ following bones n count b₀ e₀ b e w =
     (w .buckets ∙ ap (λ (r : Res ℕ). leaves r (bucketRows ts) (length b₀)) a)
     (w .entries ∙ ap (λ (r : Res ℕ). leaves r (flatMap entryWords (entryRows ts)) (length e₀)) a) l (c ∙ ap bucketCount l)
 
-pub chained : Chained
-chained = record { following = following }
+pub tag-chains : TagChains
+tag-chains = record { following = following }

@@ -1,6 +1,6 @@
 -- `build_bone_tags` in the format's words: whatever the bones, following the links of the rows that it leaves gives the chains of their
 -- tags (docs/FORMAT.md, "Deriving"). b₀ and e₀ are the lent tables of buckets and entries before it, b and e the same after it.
--- `proofs/Chained.antt` proves it. Definitions only.
+-- `proofs/TagChains.antt` proves it. Definitions only.
 use mathlib.Core.Path.{_≡_}
 use Prim.Native.Nat.{ℕ}
 use mathlib.Core.Option.{some}
@@ -26,7 +26,7 @@ pub record BuildsTags (bones : List ℕ) (n : ℕ) (r : Tagged) (b₀ e₀ b e :
       e ≡ leaves (tagsResult n (length bones) (length b₀) (length e₀)) (flatMap entryWords (entryRows (tags (bonesOf n bones))))
       (length e₀)
 
-pub record Chained : Type 0 where
+pub record TagChains : Type 0 where
   pub following :
       (bones : List ℕ) (n count : ℕ) (b₀ e₀ b e : List ℕ) → BuildsTags bones n (Done count) b₀ e₀ b e →
       chainsAlong (entriesIn e) n (take count b) ≡ some (chains (tags (bonesOf n bones)))
