@@ -39,7 +39,7 @@ pub fn hold(crates: &Path, sheets: &[Sheet]) -> ExitCode {
     complaints.extend(section(crates));
     complaints.iter().for_each(|c| eprintln!("controls: {c}"));
     if complaints.is_empty() {
-        println!("controls: {lines} lines of the specs are what the published Rust and 01's text give");
+        println!("controls: {lines} lines of the specs are what the published Rust and docs/FORMAT.md give");
         return ExitCode::SUCCESS;
     }
     ExitCode::FAILURE

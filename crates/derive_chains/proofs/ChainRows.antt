@@ -10,10 +10,9 @@ use borrow.Author.Tests.{eqb-true}
 use lib.ListN.{length, getD}
 use lib.Dec.{eqb}
 use Rattle.format.specs.Chains.{bucketCount, entryCount, entryOf, keepIf, keep, falling, inBucket, chain, upFrom, chains}
-use Rattle.format.specs.Deriving.{EntryRow, entryRow}
 use Rattle.format.specs.Check.{noEntry, chainAlong, chainsAlong}
 use Rattle.derive_chains.specs.ChainRows.{linkBelow, bucketRows, entryRows, ChainRows}
-use Rattle.derive_chains.proofs.Tagging.{getD-up-from, length-up-from}
+use Rattle.derive_chains.proofs.Tagging.{rowFor, getD-up-from, length-up-from}
 
 -- there are no buckets, or an entry for each bone
 none-or-each : {A : Type 0} (n : ℕ) → (bucketCount n ≡ 0 → A) → (n ≤ entryCount n → A) → A
@@ -26,12 +25,9 @@ module _ (ts : List ℕ) where
   abbrev count : ℕ
   count = bucketCount (length ts)
 
-  abbrev rowFor : ℕ → EntryRow
-  rowFor p = entryRow (getD ts p 0) p (linkBelow ts count (getD ts p 0 % count) p)
-
-  row-at : (p : ℕ) → p < entryCount (length ts) → getD (entryRows ts) p noEntry ≡ rowFor p
+  row-at : (p : ℕ) → p < entryCount (length ts) → getD (entryRows ts) p noEntry ≡ rowFor ts count p
   unfolding entryRows
-  row-at p h = getD-up-from rowFor noEntry 0 (entryCount (length ts)) p h ∙ ap rowFor (zero-add p)
+  row-at p h = getD-up-from (rowFor ts count) noEntry 0 (entryCount (length ts)) p h ∙ ap (rowFor ts count) (zero-add p)
 
   -- the chain of the positions below n, where at most m entries are followed
   along-below :

@@ -94,7 +94,7 @@ buckets-none tags c = no-links tags c 0 c
 -- ---- the entries
 
 -- the entry of position p
-abbrev rowFor : List ℕ → ℕ → ℕ → EntryRow
+abbrev pub rowFor : List ℕ → ℕ → ℕ → EntryRow
 rowFor tags c p = entryRow (getD tags p 0) p (linkBelow tags c (getD tags p 0 % c) p)
 
 words-append : (a b : List EntryRow) → flatMap entryWords (a ++ b) ≡ flatMap entryWords a ++ flatMap entryWords b
