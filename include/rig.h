@@ -35,7 +35,9 @@ uint32_t rig_abi(void);
 
 /* ---- answers ---- */
 
-/* What a call with a status answers: RIG_OK, RIG_NONE, or the refusal, by which one knows whose fault it is. */
+/* What a call with a status answers: RIG_OK exactly for a result, RIG_NONE exactly for none, else the refusal, by which one knows
+ * whose fault it is. Which refusals a call can give is proved: deriving 1 and 2; rig_write 1 to 5; rig_read and rig_search 1 and 10 to
+ * 13; rig_check those and 21 to 25; rig_lookup 10, 11 and 14; rig_joints_read 1, 10 and 11; rig_joints_write 1, 5 and 6. */
 enum rig_status {
     RIG_OK = 0,
 
@@ -54,7 +56,7 @@ enum rig_status {
     RIG_PAST_THE_END = 11,   /* an address past the end of its half, or something there that runs past it: the section may be cut off */
     RIG_OTHER_KIND = 12,     /* an address that was read as one kind of thing before and now as another: two pointers share it */
     RIG_BONES_POINTER = 13,  /* a bones pointer from 1 to 15: the header in front of the first bone cannot stand */
-    RIG_CHAIN_TOO_LONG = 14, /* a hash chain with more entries than the skeleton has bones, perhaps a circle; in lookup only */
+    RIG_CHAIN_TOO_LONG = 14, /* a hash chain with more entries than the stored bone count, perhaps a circle; in lookup only */
 
     /* of whoever derived the section's tables; in the check only. They are to be derived again from the bones. */
     RIG_CHAINS_DIFFER = 21,   /* the hash chains differ from those of the bones' tags: the game may not find some bone by its tag */
