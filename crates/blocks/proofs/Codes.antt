@@ -1,4 +1,4 @@
--- The laws of kinds and their codes: each kind has its own code, never 0, and is told by it. Assumes nothing.
+-- The laws of kinds and their codes: each kind has its own code, from 1 to 15, and is told by it. Assumes nothing.
 use mathlib.Core.Path.{_≡_, refl, sym, ap, _∙_}
 use Prim.Native.Nat.{ℕ, _<_}
 use native.Mathlib.Omega.{arith}
@@ -18,6 +18,18 @@ kindCode-pos (list inverseTable) = omega arith
 kindCode-pos (list localTable) = omega arith
 kindCode-pos (list parentsTable) = omega arith
 kindCode-pos (list childrenTable) = omega arith
+
+pub kindCode-lt : (k : Kind) → kindCode k < 16
+kindCode-lt skeleton = omega arith
+kindCode-lt buckets = omega arith
+kindCode-lt entry = omega arith
+kindCode-lt block = omega arith
+kindCode-lt bone = omega arith
+kindCode-lt string = omega arith
+kindCode-lt (list inverseTable) = omega arith
+kindCode-lt (list localTable) = omega arith
+kindCode-lt (list parentsTable) = omega arith
+kindCode-lt (list childrenTable) = omega arith
 
 pub kindFrom-kindCode : (k : Kind) → kindFrom (kindCode k) ≡ k
 unfolding kindFrom

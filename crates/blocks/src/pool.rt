@@ -1,15 +1,17 @@
 // The pool: a lent table that maps an address to what was read there (docs/FORMAT.md, "Finding bytes"; `cached_as` and `cache` of
-// `src/blocks/mod.rs`), searched by the address's hash. A row is four words: the address, the kind's code, and the first and the
-// count of what is stored (of a name, its address and its size). Code 0 marks a free row, so that any address has its row. A
-// table of n words has n / 4 rows; the words behind the last row are not used.
+// `src/blocks/mod.rs`): a row near the address's home, or in a tree (`tree`). A row is four words: the address, the code word, and the
+// first and the count of what is stored (of a name, its address and its size). The code word has the kind's code, 0 for a free row, so
+// that any address has its row, and the links of the tree. A table of n words has n / 4 rows; the words behind the last row are not used.
 // Callers carry `Represents t n q`, that the table t of n rows holds the pool q, from the cleared table, which holds the empty pool,
 // through every `put`. Of a table that holds no pool nothing is promised but safety.
 ghost use mathlib.Core.Path.{_≡_};
-ghost use Prim.Native.Nat.{_≤_, _<_};
+ghost use Prim.Native.Nat.{ℕ, _+_, _≤_, _<_};
 ghost use Rattle.blocks.specs.Kinds.{meantKind};
-ghost use Rattle.blocks.specs.Hashed.{poolRows, homeOf, Scanned, PlacedAt};
+ghost use Rattle.blocks.specs.Hashed.{poolRows, homeOf, EndsAt, Scanned, PlacedAt, withRow};
 ghost use Rattle.blocks.specs.Pool.{poolRow, Finds, FindsAs, Stores, FindsAt, FindsAsAt, StoresAt};
 use crate::kinds::Kind;
+use crate::tree;
+use crate::tree::Ended;
 use format::POOL_WORDS;
 use format::Refusal;
 
@@ -36,20 +38,47 @@ pub enum Stored {
     Full,
 }
 
-// The row at which the search for an address starts. Addresses of one stretch of 512 bytes stay together, 7 rows to 16 bytes, since
-// they are asked for one after another; the stretches are spread evenly over the table by the golden ratio.
+// How many rows are searched from the home on, before the tree.
+const NEAR: usize = 16;
+
+// The row at which the search for an address starts. In a small table addresses are spread by the golden ratio. In a larger one those
+// of a stretch of 2,048 bytes stay together, 7 rows to 16 bytes, since they are asked for one after another, and the stretches are spread.
 fn home(va: u64, rows: usize) -> usize
     requires { ⌜ 0 < rows ⌝ }
     ensures { λ r. ⌜ (r ≡ homeOf va rows) × (r < rows) ⌝ }
 {
     let n = rows as u64;
-    let mixed = va / 512 % 4294967296 * 2654435769 % 4294967296;
-    let stretch = mixed * (n % 4294967296) / 4294967296;
-    let row = stretch + va % 512 * 7 / 16;
+    if n < 8192 {
+        return (va % 4294967296 * 2654435769 % 4294967296 * n / 4294967296) as usize;
+    }
+    let mixed = va / 2048 % 4294967296 * 2654435769 % 4294967296;
+    let row = mixed * (n % 4294967296) / 4294967296 + va % 2048 * 7 / 16;
     if row < n {
         return row as usize;
     }
-    (row % n) as usize
+    (row - n) as usize
+}
+
+// The row behind those that are near a home.
+fn near_end(home: usize, rows: usize) -> usize
+    requires { ⌜ home < rows ⌝ }
+    ensures { λ r. ⌜ (home ≤ r) × (r ≤ rows) × (r ≤ home + 16) × ((k : ℕ) → k < home + 16 → k < rows → k < r) ⌝ }
+{
+    if NEAR < rows - home {
+        return home + NEAR;
+    }
+    rows
+}
+
+// Whether a search ends at row i: the row is free or has the address.
+fn ends_at(pool: &[u64], va: u64, i: usize) -> bool
+    requires { ⌜ i < poolRows (now pool) ⌝ }
+    ensures { λ r. ⌜ EndsAt (now (pool .entry)) va i r ⌝ }
+{
+    if tree::kind_in(pool[POOL_WORDS * i + 1]) == 0 {
+        return true;
+    }
+    pool[POOL_WORDS * i] == va
 }
 
 // The first row of `from` .. `to` that is free or has the address, else `to`.
@@ -59,10 +88,7 @@ fn scan(pool: &[u64], va: u64, from: usize, to: usize) -> usize
 {
     let mut i = from;
     while i < to {
-        if pool[POOL_WORDS * i + 1] == 0 {
-            return i;
-        }
-        if pool[POOL_WORDS * i] == va {
+        if ends_at(pool, va, i) {
             return i;
         }
         i += 1;
@@ -70,9 +96,34 @@ fn scan(pool: &[u64], va: u64, from: usize, to: usize) -> usize
     i
 }
 
-// The row at which the search for an address ends: its own, or the first free row from its home on, around the end; the number
-// of rows if there is neither. Two straight scans: from the home to the end, and from the start to the home. One search serves
-// `cached_at` and `put_at`, as long as no other row is stored between them.
+// Where the search for an address from its home on ends, as `place` says: near the home, in the tree, or behind the rows that a link can
+// lead to. In a table below 32 GiB a link can lead to every row.
+fn search(pool: &[u64], va: u64, h: usize) -> usize
+    requires { ⌜ (h ≡ homeOf va (poolRows (now pool))) × (h < poolRows (now pool)) ⌝ }
+    ensures { λ r. ⌜ PlacedAt (now (pool .entry)) va r ⌝ }
+{
+    let rows = pool.len() / POOL_WORDS;
+    let e = near_end(h, rows);
+    let i = scan(pool, va, h, e);
+    if i < e {
+        return i;
+    }
+    let end = tree::path(pool, va);
+    if let Ended::At(r) = end {
+        return r;
+    }
+    let linked = tree::linked_rows(rows);
+    let free = tree::free_row(pool);
+    if free < linked {
+        return rows + 1 + free;
+    }
+    scan(pool, va, linked, rows)
+}
+
+// Where the search for an address ends: its own row, or a free one near its home; else, where the tree has a free row for it, that row
+// behind the number of rows, counted from 1; else the number of rows. One search serves `cached_at` and `put_at`, as long as no other
+// row is stored between them. It looks at 16 rows near the home, and at 65 of the tree at most (specs/Bound.antt); mostly it ends at
+// the home itself, which is asked here, so that the rest is not in the code of every caller.
 pub fn place(pool: &[u64], va: u64) -> usize
     ensures row { λ r. ⌜ PlacedAt (now (pool .entry)) va r ⌝ }
 {
@@ -81,15 +132,10 @@ pub fn place(pool: &[u64], va: u64) -> usize
         return 0;
     }
     let h = home(va, rows);
-    let i = scan(pool, va, h, rows);
-    if i < rows {
-        return i;
+    if ends_at(pool, va, h) {
+        return h;
     }
-    let j = scan(pool, va, 0, h);
-    if j < h {
-        return j;
-    }
-    rows
+    search(pool, va, h)
 }
 
 // What stands in row i, where the search for an address ended.
@@ -97,7 +143,7 @@ fn row_at(pool: &[u64], i: usize) -> Found
     ensures { λ r. ⌜ FindsAt (now (pool .entry)) i r ⌝ }
 {
     if i < pool.len() / POOL_WORDS {
-        let code = pool[POOL_WORDS * i + 1];
+        let code = pool[POOL_WORDS * i + 1] % 16;
         if code != 0 {
             let first = pool[POOL_WORDS * i + 2];
             let count = pool[POOL_WORDS * i + 3];
@@ -136,19 +182,17 @@ pub fn cached_as(pool: &[u64], kind: Kind, va: u64) -> Cached
     cached_at(pool, kind, place(pool, va))
 }
 
-// Pools what was read at an address whose search ended at row i, as `put` does.
-pub fn put_at(pool: &mut [u64], i: usize, va: u64, kind: Kind, first: u64, count: u64) -> Stored
-    ensures table { λ r. ⌜ StoresAt i (poolRow va (meantKind kind) first count) r (now (pool .entry)) (now (pool .exit)) ⌝ }
+// Stores row i. Its links stay.
+fn store(pool: &mut [u64], i: usize, va: u64, kind: Kind, first: u64, count: u64)
+    requires { ⌜ i < poolRows (now pool) ⌝ }
+    ensures table { λ _. ⌜ now (pool .exit) ≡ withRow (now (pool .entry)) i (poolRow va (meantKind kind) first count) ⌝ }
 {
-    if pool.len() / POOL_WORDS <= i {
-        return Stored::Full;
-    }
     let code = kind.code();
+    let word = pool[POOL_WORDS * i + 1];
     pool[POOL_WORDS * i] = va;
-    pool[POOL_WORDS * i + 1] = code;
+    pool[POOL_WORDS * i + 1] = tree::with_kind(word, code);
     pool[POOL_WORDS * i + 2] = first;
     pool[POOL_WORDS * i + 3] = count;
-    Stored::Done
 }
 
 // Pools what was read at an address, in the place of the earlier row of the address if there is one. The table then holds the
@@ -156,6 +200,32 @@ pub fn put_at(pool: &mut [u64], i: usize, va: u64, kind: Kind, first: u64, count
 pub fn put(pool: &mut [u64], va: u64, kind: Kind, first: u64, count: u64) -> Stored
     ensures table { λ r. ⌜ Stores (poolRow va (meantKind kind) first count) r (now (pool .entry)) (now (pool .exit)) ⌝ }
 {
-    let i = place(pool, va);
-    put_at(pool, i, va, kind, first, count)
+    let rows = pool.len() / POOL_WORDS;
+    if rows == 0 {
+        return Stored::Full;
+    }
+    let h = home(va, rows);
+    let r = search(pool, va, h);
+    if r < rows {
+        store(pool, r, va, kind, first, count);
+        return Stored::Done;
+    }
+    if r == rows {
+        return Stored::Full;
+    }
+    let free = r - rows - 1;
+    tree::link(pool, free, va);
+    store(pool, free, va, kind, first, count);
+    Stored::Done
+}
+
+// Pools what was read at an address whose search ended at i, as `put` does.
+pub fn put_at(pool: &mut [u64], i: usize, va: u64, kind: Kind, first: u64, count: u64) -> Stored
+    ensures table { λ r. ⌜ StoresAt i (poolRow va (meantKind kind) first count) r (now (pool .entry)) (now (pool .exit)) ⌝ }
+{
+    if i < pool.len() / POOL_WORDS {
+        store(pool, i, va, kind, first, count);
+        return Stored::Done;
+    }
+    put(pool, va, kind, first, count)
 }

@@ -18,7 +18,7 @@ use Rattle.format.specs.Records.{entryTag, entryPosition, entryNext}
 use Rattle.format.specs.Read.{linkTo, chainFrom, readChain, headFrom, readHead, readBuckets, bucketsFrom, readBucketArray}
 use Rattle.format.proofs.Results.{gone, needed}
 use Rattle.blocks.specs.Pool.{enter}
-use Rattle.blocks.proofs.Search.{eq-or-ne}
+use Rattle.blocks.proofs.Cases.{eq-or-ne}
 use Rattle.blocks.proofs.Entering.{find-enter-same, find-enter-other, put-enter}
 use Rattle.read_bones.specs.Lent.{Unread}
 

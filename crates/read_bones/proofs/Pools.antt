@@ -10,7 +10,7 @@ use borrow.Author.Tests.{eqb-true}
 use Rattle.format.specs.Result.{done, _>>=_, need}
 use Rattle.format.specs.Tables.{Kind, kindNumber, sameKind, Rows, Pooled, find, asKind}
 use Rattle.blocks.specs.Pool.{enter}
-use Rattle.blocks.proofs.Search.{eq-or-ne}
+use Rattle.blocks.proofs.Cases.{eq-or-ne}
 use Rattle.blocks.proofs.Entering.{find-enter-same, find-enter-other}
 use Rattle.read_bones.specs.Lent.{Passed, Unread}
 

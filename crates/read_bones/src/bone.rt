@@ -137,7 +137,8 @@ fn bone_from(
             if let rows::RowStored::NoRoom = s {
                 return Row::Refused(Refusal::TableTooShort);
             }
-            match pool::put(pool, va, Kind::Bone, used as u64, 1) {
+            let i = pool::place(pool, va);
+            match pool::put_at(pool, i, va, Kind::Bone, used as u64, 1) {
                 pool::Stored::Done => Row::At(used as u64, used + 1),
                 pool::Stored::Full => Row::Refused(Refusal::TableTooShort),
             }

@@ -21,7 +21,7 @@ use Rattle.tables.proofs.Laid.{laid-none, sets-laid}
 use Rattle.blocks.specs.Pool.{Stores, enter}
 use Rattle.blocks.specs.declared.pool.Stored.{Stored}
 use Rattle.blocks.specs.declared.pool.Stored.the-variants.{Done}
-use Rattle.blocks.proofs.Search.{eq-or-ne}
+use Rattle.blocks.proofs.Cases.{eq-or-ne}
 use Rattle.blocks.proofs.Table.{represents-zero}
 use Rattle.blocks.proofs.Entering.{find-enter-same, find-enter-other}
 use Rattle.blocks.proofs.Storing.{after, put-fits, put-done}

@@ -15,7 +15,7 @@ use Rattle.format.specs.Tables.{Rows, pooled, Lists, Tables, Room, withPool, wo
 use Rattle.format.proofs.Results.{gone}
 use Rattle.blocks.specs.Pool.{enter}
 use Rattle.blocks.proofs.Entering.{find-enter-same, find-enter-other, put-enter}
-use Rattle.blocks.proofs.Search.{eq-or-ne}
+use Rattle.blocks.proofs.Cases.{eq-or-ne}
 use Rattle.read_lists.specs.Lists.{Inside, ListsStand}
 
 -- ---- words added to a table

@@ -20,7 +20,7 @@ use Rattle.format.proofs.Fields.{length-words, words-at, field-within}
 use Rattle.blocks.specs.Places.{bytesOf, Locates}
 use Rattle.blocks.specs.declared.places.Located.{Located}
 use Rattle.blocks.specs.declared.places.Located.the-variants.{System, Graphics, Refused as NotLocated}
-use Rattle.blocks.proofs.Search.{le-or-lt}
+use Rattle.blocks.proofs.Cases.{le-or-lt}
 use Rattle.blocks.proofs.Standing.{system-stands, graphics-stands}
 use Rattle.read_lists.specs.Storing.{Within, Arrays, Takes, Copies, ReadsNewList}
 use Rattle.read_lists.specs.declared.Listed.{Listed}

@@ -23,7 +23,7 @@ use Rattle.blocks.specs.declared.cursor.CursorCheck.{CursorCheck}
 use Rattle.blocks.specs.Places.{spotIn, spotOf, Locates}
 use Rattle.blocks.specs.declared.places.Located.{Located}
 use Rattle.blocks.specs.declared.places.Located.the-variants.{System, Graphics, Refused}
-use Rattle.blocks.proofs.Search.{le-or-lt}
+use Rattle.blocks.proofs.Cases.{le-or-lt}
 use Rattle.blocks.proofs.Standing.{standing-done, refused-part}
 use Rattle.read_records.specs.Entry.{entryIn, ReadsFields, fieldsOf, entryAt}
 use Rattle.read_records.specs.declared.entry.Read.{Read}

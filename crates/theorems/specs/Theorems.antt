@@ -74,8 +74,8 @@ pub record WrittenBack (lent : Section) (a : List ℕ) (n : ℕ) (free : Words4)
 
 pub record Theorems : Type 0 where
   -- Exact. "Whatever bytes the system and graphics sections hold, whoever wrote them, and whatever the root address, the skeleton check,
-  -- lent the tables that 01 sizes, accepts exactly when the section reads and its chains, parents, children and matrices equal those that
-  -- 01 derives from the bones read."
+  -- lent the tables that [the format] sizes, accepts exactly when the section reads and its chains, parents, children and matrices equal
+  -- those that [it] derives from the bones read."
   pub exact :
       (sec : Section) (root : ℕ) (t₀ t : read.Lent) (x₀ x : Working) (r : Checked) → Checks sec root r t₀ t x₀ x →
       Sized sec root (readRoom t₀) (roomIn x₀) → Accepting r ↔ Sound sec root

@@ -25,7 +25,7 @@ use Rattle.blocks.specs.Places.{Locates}
 use Rattle.blocks.specs.declared.places.Located.{Located}
 use Rattle.blocks.specs.declared.places.Located.the-variants.{Refused}
 use Rattle.blocks.proofs.Standing.{refused-part}
-use Rattle.blocks.proofs.Search.{le-or-lt}
+use Rattle.blocks.proofs.Cases.{le-or-lt}
 use Rattle.rows.specs.Value.{ourPlace}
 use Rattle.format.specs.declared.Place as our
 use Rattle.write.specs.Records.{takes, takesAll, ShortName}

@@ -1,4 +1,4 @@
-//! A derivation that is asked for, and its status by 01.
+//! A derivation that is asked for, and the status that docs/FORMAT.md gives it.
 
 use crate::difference::Input;
 use crate::smaller::{smaller_bones, smaller_room};

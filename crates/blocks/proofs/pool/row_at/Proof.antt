@@ -60,7 +60,7 @@ returns-2 : tie.Need-returns-2
 returns-2 c =
     let t = c .before .before in
     let a = t .before .before .args in
-    record { at = λ va p. finds-free (now (a .pool)) va (a .i) p (t .if1 .taken) (c .if2 .left) }
+    record { at = λ va p. finds-free (now (a .pool)) va (a .i) p (c .if2 .left) }
 
 returns-3 : tie.Need-returns-3
 returns-3 c =

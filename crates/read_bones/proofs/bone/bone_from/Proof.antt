@@ -46,15 +46,18 @@ returns c =
 enum-told-2 : tie.Need-enum-told-2
 enum-told-2 c = search needs
 
-put-requires : tie.Need-put-requires
-put-requires c κs = search needs
+place-requires : tie.Need-place-requires
+place-requires c κs = search needs
+
+put-at-requires : tie.Need-put-at-requires
+put-at-requires c κs = search needs
 
 enum-told-3 : tie.Need-enum-told-3
 enum-told-3 c = search needs
 
-add-t27 : tie.Need-add-t27
-add-t27 c =
-    let at-enum-told2 = c .before .before .before .before .before .before in
+add-t30 : tie.Need-add-t30
+add-t30 c =
+    let at-enum-told2 = c .before .before .before .before .before .before .before .before in
     let at-put-bone = at-enum-told2 .before .before .before .before in
     let past = at-put-bone .before .before .before .before .before .before .before .before .before .before in
     let start = past .before .before .before .before .before .before in
@@ -78,7 +81,8 @@ same-length-4 c = search needs
 returns-2 : tie.Need-returns-2
 returns-2 c =
     let at-put = c .before .before .before .before in
-    let at-enum-told2 = at-put .before .before in
+    let at-place = at-put .before .before in
+    let at-enum-told2 = at-place .before .before in
     let at-put-bone = at-enum-told2 .before .before .before .before in
     let at-bone-in = at-put-bone .before in
     let at-n = at-bone-in .before .before .before in
@@ -88,7 +92,7 @@ returns-2 c =
     bone-done _ (now (start .args .b)) (start .args .va) (start .args .used) _
     (at-u64-at .u64-at .ensures) (at-read-name .read-name .ensures)
     (at-n .n .given .1) (at-put-bone .put-bone .ensures .0) (at-enum-told2 .enum-told2 .given .1)
-    (at-put .put .ensures) (at-bone-in .bone-in .result) (at-bone-in .bone-in .ensures)
+    (at-put .put-at .ensures .at (at-place .place .ensures)) (at-bone-in .bone-in .result) (at-bone-in .bone-in .ensures)
     (at-put-bone .put-bone .ensures .1) (c .enum-told3 .given .1)
 
 same-length-5 : tie.Need-same-length-5
@@ -100,7 +104,8 @@ same-length-6 c = search needs
 returns-3 : tie.Need-returns-3
 returns-3 c =
     let at-put = c .before .before .before .before in
-    let at-enum-told2 = at-put .before .before in
+    let at-place = at-put .before .before in
+    let at-enum-told2 = at-place .before .before in
     let at-put-bone = at-enum-told2 .before .before .before .before in
     let at-n = at-put-bone .before .before .before .before in
     let at-read-name = at-n .before .before .before .before in
@@ -109,7 +114,7 @@ returns-3 c =
     bone-full _ (now (start .args .b)) (start .args .va) (start .args .used) _
     (at-u64-at .u64-at .ensures) (at-read-name .read-name .ensures)
     (at-n .n .given .1) (at-put-bone .put-bone .ensures .0) (at-enum-told2 .enum-told2 .given .1)
-    (at-put .put .ensures) _ (c .enum-told4 .given .1)
+    (at-put .put-at .ensures .at (at-place .place .ensures)) _ (c .enum-told4 .given .1)
 
 same-length-7 : tie.Need-same-length-7
 same-length-7 c = search needs
@@ -138,9 +143,10 @@ bone-from-spec =
     same-length-2
     returns
     enum-told-2
-    put-requires
+    place-requires
+    put-at-requires
     enum-told-3
-    add-t27
+    add-t30
     enum-told-4
     enum-known-n-2
     same-length-3
