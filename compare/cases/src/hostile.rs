@@ -37,7 +37,7 @@ pub struct Hostile {
     addresses: fn(usize, usize) -> Vec<u64>,
 }
 
-pub const HOSTILE: [Hostile; 12] = [
+pub const HOSTILE: [Hostile; 13] = [
     Hostile::new("lowest homes", [100, 2_000, BUCKETS], Form::Buckets, addresses::lowest),
     Hostile::new("lowest homes, one chain", [100, 4_000, 262_144], Form::Chain, addresses::lowest_of_chain),
     Hostile::new("every byte", [100, 2_000, BUCKETS], Form::Buckets, addresses::every_byte),
@@ -49,7 +49,8 @@ pub const HOSTILE: [Hostile; 12] = [
     Hostile::new("a solid block, then the dearest", [100, 2_000, BUCKETS], Form::Buckets, tree::dearest),
     Hostile::new("a solid block, then the dearest, one chain", [100, 2_000, 262_144], Form::Chain, tree::dearest_of_chain),
     Hostile::new("deepest tree", [100, 2_000, BUCKETS], Form::Buckets, tree::deepest),
-    Hostile::new("longest path asked again", [254; 3], Form::Buckets, tree::asked_again),
+    Hostile::new("deepest tree asked again", [100, 1_024, 1_024], Form::Buckets, tree::deepest_again),
+    Hostile::new("longest path asked again", [254; 3], Form::Buckets, tree::longest_path_again),
 ];
 
 impl Hostile {

@@ -4,6 +4,7 @@ use super::addresses::{of_lowest_home, within};
 use super::{BUCKETS, ENTRIES};
 use crate::rng::Rng;
 use crate::search::{home, End, Pool};
+use std::cmp::Reverse;
 
 /// For each of the first `block` rows an address whose home it is, if there is one.
 fn solid(all: impl Iterator<Item = u64>, block: usize, rows: usize) -> Vec<u64> {
@@ -12,12 +13,17 @@ fn solid(all: impl Iterator<Item = u64>, block: usize, rows: usize) -> Vec<u64> 
     first.into_iter().take(block).flatten().collect()
 }
 
+/// A pool of so many rows in which these addresses are stored.
+fn pooled(addresses: &[u64], rows: usize) -> Pool {
+    let mut pool = Pool::new(rows);
+    addresses.iter().for_each(|&va| pool.store(va, pool.search(va).0));
+    pool
+}
+
 /// A solid block of 0.4 of the wanted rows; then, each time, that of so many drawn addresses whose search looks at the most rows.
 fn block_then_dearest(n: usize, rows: usize, bytes: usize, step: usize, draws: usize) -> Vec<u64> {
-    let (mut pool, mut rng) = (Pool::new(rows), Rng::new(1));
     let mut asked = solid(within(n, bytes, step), n * 2 / 5, rows);
-    asked.iter().for_each(|&va| pool.store(va, pool.search(va).0));
-    let places = n * bytes / step;
+    let (mut pool, mut rng, places) = (pooled(&asked, rows), Rng::new(1), n * bytes / step);
     while asked.len() < n {
         let drawn = (0..draws).map(|_| ENTRIES + (rng.below(places) * step) as u64);
         let new = drawn.map(|va| (pool.search(va), va)).filter(|((end, _), _)| *end != End::Known);
@@ -44,9 +50,19 @@ pub fn deepest(n: usize, rows: usize) -> Vec<u64> {
     of_lowest_home(groups.flat_map(|group| group..group + 16), n, rows)
 }
 
+/// The deepest tree, and then, for all other buckets, any of that quarter of its addresses whose search looks at the most rows.
+pub fn deepest_again(n: usize, rows: usize) -> Vec<u64> {
+    let mut asked = deepest(n, rows);
+    let (pool, mut rng, mut dearest) = (pooled(&asked, rows), Rng::new(1), asked.clone());
+    dearest.sort_by_key(|&va| Reverse(pool.search(va).1));
+    dearest.truncate(n / 4);
+    asked.resize_with(BUCKETS, || rng.pick(&dearest));
+    asked
+}
+
 /// A solid block, 32 addresses whose rows are one path of the tree, and then, for all other buckets, the address at its end. The
 /// homes of all 33 lie in the block.
-pub fn asked_again(n: usize, rows: usize) -> Vec<u64> {
+pub fn longest_path_again(n: usize, rows: usize) -> Vec<u64> {
     let block = n - 33;
     let mut asked = solid(within(1, 0x1_0000, 1), block, rows);
     // 1 MiB apart, so that the first 16 bits of their keys are the same, and the 16 bytes at each find no free row near their homes
