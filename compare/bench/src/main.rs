@@ -1,8 +1,9 @@
 //! Times our library and the published Rust on the same inputs, in one run, and prints a table in Markdown. Words name the
-//! groups to be timed: deriving, skeletons, checks, joints, hash; none is all. `profile` makes one call of ours alone.
+//! groups to be timed: deriving, skeletons, hostile, checks, joints, hash; none is all. `profile` makes one call of ours alone.
 
 mod checks;
 mod derive;
+mod hostile;
 mod lent;
 mod parts;
 mod profile;
@@ -25,6 +26,9 @@ nobody's children. The Rust writes by `from_bones`, our placing and `Block::writ
 of writing less that of the three derivations, called in turn with it on the same tables. \"Deriving aside\" is the same job on both
 sides: the Rust places blocks that were derived beforehand, and writes them. \"Against placed blocks\": the Rust's is `Block::write`
 alone; ours still tests and measures the names and finds the places.
+
+What is counted in addresses is the reading of sections without bones whose entries lie where our search of the pool, whose constants
+are known, looks at the most rows; each is made for the pool that it is read with. The Rust's pool is a `HashMap`.
 
 A check is timed with a pool half full, against the Rust's reading and its three derivations from the bones read, without any
 comparison. A lookup finds the tag of a bone in the section's bytes; the Rust's side is `get` of a `HashMap<u16, u32>` made before.
@@ -65,6 +69,9 @@ fn run(words: &[String]) -> Result<(), String> {
     if let (Some(library), Some(derive)) = (link::skeletons().filter(|_| wanted("skeletons")), link::derive()) {
         skeletons::rigs(&table, library, derive);
     }
+    if let Some(library) = link::skeletons().filter(|_| wanted("hostile")) {
+        hostile::sections(&table, library);
+    }
     if let Some(library) = link::checks().filter(|_| wanted("checks")) {
         checks::rigs(&table, library);
     }
@@ -79,6 +86,7 @@ fn run(words: &[String]) -> Result<(), String> {
     let groups = [
         ("deriving", link::derive().is_some()),
         ("skeletons", link::skeletons().is_some()),
+        ("hostile", link::skeletons().is_some()),
         ("checks", link::checks().is_some()),
         ("joints", link::joints().is_some()),
         ("hash", link::hash().is_some()),

@@ -25,22 +25,21 @@ pub fn longest(rng: &mut Rng, n: usize) -> Vec<Bone> {
     broad(rng, n, LONGEST_WRITTEN)
 }
 
+/// The pools that a section is read with: the call's name, and how many times the rows that reading wants.
+pub const POOLS: [(&str, usize); 2] = [("read, pool half full", 2), ("read, pool full", 1)];
+
 /// Reading, with a pool of twice the rows that it wants and with one of just these; writing, and writing without deriving, against
 /// the Rust's placing and writing of derived blocks and against its writing of placed ones. Not so for chains, where the walks of
 /// deriving take nearly all of the time.
 pub fn rigs(table: &Table, library: &dyn Skeletons, derive: &dyn Derive) {
+    few_bones(table, library);
     for (shape, drawn, n) in RIGS {
         let bones = named(drawn, n);
         let input = format!("{shape}, {} bones", thousands(n));
         let row = |call| Row { call, input: &input, units: n, unit: "a bone" };
         let section = PreparedRig::new(&bones).write().0;
-        for (call, pool) in [("read, pool half full", 2), ("read, pool full", 1)] {
-            let mut lent = ReadLent::new(&section, pool);
-            let rust = || {
-                let prepared = PreparedSection::new(&section);
-                timed(|| prepared.read(SYSTEM_BASE))
-            };
-            table.both(&row(call), || lent.read(library, &section), rust);
+        for (call, pool) in POOLS {
+            read_both(table, library, &row(call), &section, pool);
         }
         let mut lent = WriteLent::new(&bones, section.len());
         let rust = || {
@@ -57,6 +56,24 @@ pub fn rigs(table: &Table, library: &dyn Skeletons, derive: &dyn Derive) {
             table.rest(&row("write, against placed blocks"), || ours(&mut lent), || timed(|| placed.write()));
         }
     }
+}
+
+/// Reading of few bones, for which what a call costs in itself counts most.
+fn few_bones(table: &Table, library: &dyn Skeletons) {
+    let section = PreparedRig::new(&named(tree, 10)).write().0;
+    for (call, pool) in POOLS {
+        read_both(table, library, &Row { call, input: "random tree, 10 bones", units: 10, unit: "a bone" }, &section, pool);
+    }
+}
+
+/// The row of a reading with a pool of so many times the rows that are wanted.
+pub fn read_both(table: &Table, library: &dyn Skeletons, row: &Row, section: &[u8], pool: usize) {
+    let mut lent = ReadLent::new(section, pool);
+    let rust = || {
+        let prepared = PreparedSection::new(section);
+        timed(|| prepared.read(SYSTEM_BASE))
+    };
+    table.both(row, || lent.read(library, section), rust);
 }
 
 /// Our tables for reading a section, all but the pool exactly as long as they must be.

@@ -3,6 +3,7 @@
 
 pub mod damage;
 pub mod hand;
+pub mod hostile;
 pub mod joints;
 pub mod limits;
 pub mod names;
@@ -14,6 +15,7 @@ pub mod rng;
 pub mod rows;
 pub mod rows_changed;
 pub mod scattered;
+pub mod search;
 pub mod section;
 pub mod tables;
 pub mod trial;

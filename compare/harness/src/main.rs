@@ -8,6 +8,7 @@ mod difference;
 mod extent;
 mod fields;
 mod hash;
+mod hostile;
 mod joints;
 mod lent;
 mod lent_tables;
@@ -107,6 +108,10 @@ fn ours(o: &Options, failures: &Path) -> Result<(), String> {
     })?;
     compared(o, "skeletons", "", link::skeletons(), |l| {
         shown(o, skeletons::run(l, failures, seed, extent, threads)?, skeletons::require_all)
+    })?;
+    compared(o, "hostile", "", link::skeletons(), |l| {
+        let runs = skeletons::Runs { library: l, folder: failures, seed };
+        shown(o, hostile::run(runs, extent, threads)?, hostile::require_all)
     })?;
     compared(o, "checks", "", link::checks(), |l| {
         shown(o, checks::run(l, failures, seed, extent, threads)?, checks::require_all)

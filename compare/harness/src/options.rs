@@ -21,7 +21,7 @@ pub struct Options {
 }
 
 /// The comparisons of our library.
-const STAGES: [&str; 12] = [
+const STAGES: [&str; 13] = [
     "fields",
     "cursor",
     "hash",
@@ -29,6 +29,7 @@ const STAGES: [&str; 12] = [
     "deriving",
     "joints",
     "skeletons",
+    "hostile",
     "checks",
     "reads",
     "verdicts",
