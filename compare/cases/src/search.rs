@@ -7,9 +7,10 @@ const NEAR: usize = 16;
 /// The row at which the search for an address starts.
 pub fn home(va: u64, rows: usize) -> usize {
     const WORD: u64 = 1 << 32;
-    let mixed = va / 512 % WORD * 2_654_435_769 % WORD;
-    let row = mixed * (rows as u64 % WORD) / WORD + va % 512 * 7 / 16;
-    (row % rows as u64) as usize
+    let spread = |x: u64, n: u64| x % WORD * 2_654_435_769 % WORD * n / WORD;
+    let n = rows as u64;
+    let row = if n < 8_192 { spread(va, n) } else { (spread(va / 2_048, n % WORD) + va % 2_048 * 7 / 16) % n };
+    row as usize
 }
 
 /// What leads down the tree, a bit a row, the lowest first: the address, the lowest 4 of its low 32 bits behind the others.
