@@ -32,7 +32,8 @@ returns-2 : tie.Need-returns-2
 returns-2 c =
     let a = c .before .before .before .before .before .before .before .before .before .before .args in
     rw (c .before .before .store .ensures)
-    (stores-done (now (a .pool)) (poolRow (a .va) (meantKind (a .kind)) (a .first) (a .count)) _ (c .before .before .before .before .before .search .ensures)
+    (stores-done (now (a .pool)) (poolRow (a .va) (meantKind (a .kind)) (a .first) (a .count)) _
+    (c .before .before .before .before .before .search .ensures)
     (c .before .before .before .before .if2 .taken))
 
 same-length-2 : tie.Need-same-length-2
@@ -41,7 +42,8 @@ same-length-2 c = search needs
 returns-3 : tie.Need-returns-3
 returns-3 c =
     let a = c .before .before .before .before .before .before .before .args in
-    stores-full (now (a .pool)) (poolRow (a .va) (meantKind (a .kind)) (a .first) (a .count)) _ (c .before .before .search .ensures)
+    stores-full (now (a .pool)) (poolRow (a .va) (meantKind (a .kind)) (a .first) (a .count)) _
+    (c .before .before .search .ensures)
     (c .if3 .taken)
 
 sub-free : tie.Need-sub-free
@@ -55,7 +57,8 @@ link-requires c κs =
 store-requires-2 : tie.Need-store-requires-2
 store-requires-2 c κs =
     let a = c .before .before .before .before .before .before .before .before .before .before .before .before .args in
-    let l = free-low (now (a .pool)) (a .va) _ (c .before .before .before .before .before .before .before .search .ensures) (omega (arith, c .before .before .before .before .before .if3 .left)) in
+    let l = free-low (now (a .pool)) (a .va) _ (c .before .before .before .before .before .before .before .search .ensures)
+    (omega (arith, c .before .before .before .before .before .if3 .left)) in
     omega (arith, l, linkable-le (poolRows (now (a .pool))), c .before .before .before .link .kept .0)
 
 same-length-3 : tie.Need-same-length-3
@@ -65,8 +68,10 @@ returns-4 : tie.Need-returns-4
 returns-4 c =
     let a = c .before .before .before .before .before .before .before .before .before .before .before .before .before .before .before .args in
     rw (c .before .before .store2 .ensures)
-    (stores-linked (now (a .pool)) (poolRow (a .va) (meantKind (a .kind)) (a .first) (a .count)) _ (c .before .before .before .before .before .before .before .before .before .before .search .ensures)
-    (omega (arith, c .before .before .before .before .before .before .before .before .if3 .left)) _ (c .before .before .before .before .before .before .link .ensures))
+    (stores-linked (now (a .pool)) (poolRow (a .va) (meantKind (a .kind)) (a .first) (a .count)) _
+    (c .before .before .before .before .before .before .before .before .before .before .search .ensures)
+    (omega (arith, c .before .before .before .before .before .before .before .before .if3 .left)) _
+    (c .before .before .before .before .before .before .link .ensures))
 
 pub put-spec : {M : Type 1} → statement M
 put-spec =

@@ -18,7 +18,8 @@ returns c =
     let a = c .before .before .before .before .before .before .args in
     rw (c .before .before .store .ensures)
     (record {
-      at = λ g. stores-done (now (a .pool)) (poolRow (a .va) (meantKind (a .kind)) (a .first) (a .count)) (a .i) g (c .before .before .before .before .if1 .taken);
+      at = λ g. stores-done (now (a .pool)) (poolRow (a .va) (meantKind (a .kind)) (a .first) (a .count)) (a .i) g
+          (c .before .before .before .before .if1 .taken);
     })
 
 put-requires : tie.Need-put-requires

@@ -19,7 +19,8 @@ returns : tie.Need-returns
 returns c =
     let s = c .before .before .before .before .args in
     let e = c .before .before .near-end in
-    placed-near (now (s .pool)) (s .va) (s .h) (c .before .before .before .before .pre .0) (e .result) (c .before .scan .result) (c .before .scan .ensures)
+    placed-near (now (s .pool)) (s .va) (s .h) (c .before .before .before .before .pre .0) (e .result)
+    (c .before .scan .result) (c .before .scan .ensures)
     (c .if1 .taken) (e .ensures .1) (e .ensures .2)
 
 path-requires : tie.Need-path-requires
@@ -34,7 +35,8 @@ returns-2 c =
     let e = c .before .before .before .before .before .before .near-end in
     let n = c .before .before .before .before .before .scan in
     let full =
-    near-passed (now (s .pool)) (s .va) (s .h) (c .before .before .before .before .before .before .before .before .pre .0) (e .result) (n .result) (n .ensures) (c .before .before .before .before .if1 .left)
+    near-passed (now (s .pool)) (s .va) (s .h) (c .before .before .before .before .before .before .before .before .pre .0)
+    (e .result) (n .result) (n .ensures) (c .before .before .before .before .if1 .left)
     (e .ensures .3)
     in
     let p = c .before .before .before .path in
@@ -63,7 +65,9 @@ returns-3 c =
     let e = c .before .before .before .before .before .before .before .before .near-end in
     let n = c .before .before .before .before .before .before .before .scan in
     let full =
-    near-passed (now (s .pool)) (s .va) (s .h) (c .before .before .before .before .before .before .before .before .before .before .pre .0) (e .result) (n .result) (n .ensures) (c .before .before .before .before .before .before .if1 .left)
+    near-passed (now (s .pool)) (s .va) (s .h)
+    (c .before .before .before .before .before .before .before .before .before .before .pre .0) (e .result) (n .result)
+    (n .ensures) (c .before .before .before .before .before .before .if1 .left)
     (e .ensures .3)
     in
     let p = c .before .before .before .before .before .path in
@@ -81,12 +85,16 @@ returns-4 c =
     let e = c .before .before .before .before .before .before .before .before .before .near-end in
     let n = c .before .before .before .before .before .before .before .before .scan in
     let full =
-    near-passed (now (s .pool)) (s .va) (s .h) (c .before .before .before .before .before .before .before .before .before .before .before .pre .0) (e .result) (n .result) (n .ensures) (c .before .before .before .before .before .before .before .if1 .left)
+    near-passed (now (s .pool)) (s .va) (s .h)
+    (c .before .before .before .before .before .before .before .before .before .before .before .pre .0) (e .result) (n .result)
+    (n .ensures) (c .before .before .before .before .before .before .before .if1 .left)
     (e .ensures .3)
     in
     let p = c .before .before .before .before .before .before .path in
-    placed-beyond (now (s .pool)) (s .va) full (p .result) (p .ensures) _ _ (c .before .before .before .before .enum-told .given .1) _
-    (c .before .before .free-row .ensures) _ (c .before .before .before .linked-rows .ensures) (c .before .if2 .left) _ (c .scan2 .ensures)
+    placed-beyond (now (s .pool)) (s .va) full (p .result) (p .ensures) _ _
+    (c .before .before .before .before .enum-told .given .1) _
+    (c .before .before .free-row .ensures) _ (c .before .before .before .linked-rows .ensures) (c .before .if2 .left) _
+    (c .scan2 .ensures)
 
 pub search-spec : {M : Type 1} → statement M
 search-spec =

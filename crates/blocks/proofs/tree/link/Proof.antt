@@ -39,7 +39,8 @@ same-length c = search needs
 returns : tie.Need-returns
 returns c =
     let s = c .before .before .before .before .before .before in
-    linked-found (now (s .args .pool)) (s .args .va) (s .args .i) (c .before .before .path .result) (c .before .before .path .ensures) _
+    linked-found (now (s .args .pool)) (s .args .va) (s .args .i) (c .before .before .path .result)
+    (c .before .before .path .ensures) _
     (c .enum-told .given .1)
 
 mul-word : tie.Need-mul-word
@@ -83,7 +84,13 @@ sub-with-link c = search needs
 with-link-requires-2 : tie.Need-with-link-requires-2
 with-link-requires-2 c κs =
     let s = c .before .before .before .before .before .before .before .before .before .before in
-    omega (arith, linkable-lt (poolRows (now (s .args .pool))), s .pre, c .before .before .before .before .before .before .before .before .linked-rows .ensures)
+    omega (
+      arith,
+      linkable-lt
+          (poolRows (now (s .args .pool))),
+      s .pre,
+      c .before .before .before .before .before .before .before .before .linked-rows .ensures,
+    )
 
 slice-write-pool-2 : tie.Need-slice-write-pool-2
 slice-write-pool-2 c = simp length-set (omega (arith, row (c .before .before .before .before)))
@@ -95,8 +102,10 @@ returns-2 : tie.Need-returns-2
 returns-2 c =
     let s = c .before .before .before .before .before .before .before .before .before .before .before .args in
     let p = c .before .before .before .before .before .before .before .path in
-    linked-left (now (s .pool)) (s .va) (s .i) (p .result) (p .ensures) _ _ (c .before .before .before .before .before .end .given .1) _
-    (links-set (now (s .pool)) (s .i) _ _ _ _ _ (c .before .before .with-link .ensures) (c .before .before .before .before .before .before .before .before .before .linked-rows .ensures)
+    linked-left (now (s .pool)) (s .va) (s .i) (p .result) (p .ensures) _ _
+    (c .before .before .before .before .before .end .given .1) _
+    (links-set (now (s .pool)) (s .i) _ _ _ _ _ (c .before .before .with-link .ensures)
+    (c .before .before .before .before .before .before .before .before .before .linked-rows .ensures)
     (c .with-link2 .ensures))
 
 pub link-spec : {M : Type 1} → statement M

@@ -30,7 +30,8 @@ link-in-requires c κs = search needs
 loop-holds : tie.Need-loop-holds Inv-loop μ-loop
 loop-holds c =
     let s = c .before .before .before .before .before .args in
-    along-none (now (s .pool)) (s .va) _ _ _ (c .before .before .before .before .before .pre) (c .before .before .before .turned .ensures) (c .before .before .linked-rows .ensures) (c .link-in .ensures)
+    along-none (now (s .pool)) (s .va) _ _ _ (c .before .before .before .before .before .pre)
+    (c .before .before .before .turned .ensures) (c .before .before .linked-rows .ensures) (c .link-in .ensures)
 
 sub-at : tie.Need-sub-at Inv-loop μ-loop
 sub-at c = search needs
@@ -51,7 +52,8 @@ returns c =
     record {
       end =
           along-found (now (s .pool)) (s .va) (l .loop .bits) (l .loop .side) (l .loop .at) (l .loop .above) (l .loop .next)
-          (l .loop .inv) (c .before .before .before .loop-test .taken) (leb-true _ _ (c .before .before .if1 .taken)) (c .if2 .taken);
+          (l .loop .inv) (c .before .before .before .loop-test .taken) (leb-true _ _ (c .before .before .if1 .taken))
+          (c .if2 .taken);
     }
 
 mul-link-in : tie.Need-mul-link-in Inv-loop μ-loop
@@ -77,7 +79,8 @@ loop-again c =
     let l = c .before .before .before .before .before .before in
     let s = l .before .before .before .before .before .before .args in
     along-more (now (s .pool)) (s .va) (l .loop .bits) (l .loop .side) (l .loop .at) (l .loop .above) (l .loop .next)
-    (l .loop .inv) (c .before .before .before .before .before .loop-test .taken) (leb-true _ _ (c .before .before .before .before .if1 .taken)) (c .before .before .if2 .left) _ (c .link-in2 .ensures)
+    (l .loop .inv) (c .before .before .before .before .before .loop-test .taken)
+    (leb-true _ _ (c .before .before .before .before .if1 .taken)) (c .before .before .if2 .left) _ (c .link-in2 .ensures)
 
 returns-2 : tie.Need-returns-2 Inv-loop μ-loop
 returns-2 c =
