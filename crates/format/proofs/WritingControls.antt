@@ -8,10 +8,13 @@ unfolding everything
 writing-controls =
     record {
       freeWords = refl;
+      oneRootPointers = refl;
       longestName = refl;
       twoBeforeFour = refl;
       mostBones = refl;
       fourBeforeOne = refl;
+      secondName = refl;
       oneBeforeFive = refl;
+      justFits = refl;
       five = refl;
     }

@@ -1,11 +1,12 @@
--- Controls of writing (see `Controls`): the free words, the names that are taken, and the order of the refusals, which the Rust has not:
--- it is that of docs/FORMAT.md, "Who can cause a refusal". Definitions only.
+-- Controls of writing (see `Controls`): the free words, pointers to nothing, the names that are taken, and the order of the refusals 2, 4,
+-- 1 and 5, which the Rust has not: it is that of docs/FORMAT.md, "Who can cause a refusal". No case here gives 3, which wants more than
+-- 8,000 bones. Definitions only.
 use mathlib.Core.Path.{_≡_}
 use mathlib.Core.Bool.{true, false}
 use mathlib.Core.Option.{Option, none, some}
 use mathlib.Core.List.{[], _∷_, map}
 use lib.ListN.{replicate}
-use Rattle.format.specs.Result.{refused}
+use Rattle.format.specs.Result.{refused, done}
 use Rattle.format.specs.Field.{field}
 use Rattle.format.specs.Section.{Place}
 use Rattle.format.specs.Bone.{Bone, words3, words4, minusOne}
@@ -13,7 +14,7 @@ use Rattle.format.specs.Deriving.{DeriveRoom}
 use Rattle.format.specs.Layout.{layout}
 use Rattle.format.specs.Write.{goodBytes, written}
 use Rattle.format.specs.Program.{programDeriveRoom}
-use Rattle.format.specs.TrialCases.{noFree}
+use Rattle.format.specs.TrialCases.{plain, noFree}
 use Rattle.format.specs.ReadingControls.{halves, placeAt}
 use Rattle.format.specs.DerivingControls.{lentRows}
 
@@ -40,6 +41,8 @@ placedBone n =
 pub record WritingControls : Type 0 where
   -- the four free words lie at 28, 80, 84 and 88
   pub freeWords : map (field 4 (layout [] (words4 1 2 3 4))) (28 ∷ 80 ∷ 84 ∷ 88 ∷ []) ≡ 1 ∷ 2 ∷ 3 ∷ 4 ∷ []
+  -- one root has no buckets and no children: their pointers are 0
+  pub oneRootPointers : map (field 8 (layout (plain minusOne 0 0 ∷ []) noFree)) (16 ∷ 64 ∷ []) ≡ 0 ∷ 0 ∷ []
   -- names of 255 bytes, of 256, and with a zero byte
   pub longestName : map goodBytes ((replicate 255 65) ∷ (replicate 256 65) ∷ (65 ∷ 0 ∷ []) ∷ []) ≡ true ∷ false ∷ false ∷ []
   -- 65,536 bones: 2 goes before 4; 65,535 are not too many
@@ -47,7 +50,12 @@ pub record WritingControls : Type 0 where
   pub mostBones : written (halves [] []) noDeriving 0 (replicate 65535 (placedBone none)) noFree ≡ refused 1
   -- a name in neither half: 4 goes before 1
   pub fourBeforeOne : written (halves [] []) noDeriving 0 (placedBone (some (placeAt 0x7000_0000 1)) ∷ []) noFree ≡ refused 4
+  -- the second of two bones has a name in neither half
+  pub secondName :
+      written (halves [] []) programDeriveRoom 10000 (placedBone none ∷ placedBone (some (placeAt 0x7000_0000 1)) ∷ []) noFree ≡ refused 4
   -- no tables and no buffer: 1 goes before 5
   pub oneBeforeFive : written (halves [] []) noDeriving 0 (placedBone none ∷ []) noFree ≡ refused 1
-  -- one root wants 352 bytes
+  -- one root wants 352 bytes, and is written into just so many
+  pub justFits :
+      written (halves [] []) programDeriveRoom 352 (placedBone none ∷ []) noFree ≡ done (layout (plain minusOne 0 0 ∷ []) noFree)
   pub five : written (halves [] []) programDeriveRoom 351 (placedBone none ∷ []) noFree ≡ refused 5
