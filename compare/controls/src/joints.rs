@@ -79,7 +79,7 @@ fn bounds(least: [u32; 3], greatest: [u32; 3]) -> String {
     format!("least = {}; greatest = {}", applied("words3", &least), applied("words3", &greatest))
 }
 
-/// Two rotation limits and one translation limit read back, in tables of so many rows: 1 where they are fewer, by docs/FORMAT.md's text.
+/// Two rotation limits and one translation limit read back; 1 where a table has fewer rows, by docs/FORMAT.md's text.
 fn back(s: &mut Sheet, r: RotationLimit, t: TranslationLimit) {
     let bytes = joints_write(&[r, r], &[t]).section();
     s.define("joints21", "halves (jointsLayout (rotation1 ∷ rotation1 ∷ []) (translation1 ∷ [])) []".into());
@@ -92,7 +92,8 @@ fn back(s: &mut Sheet, r: RotationLimit, t: TranslationLimit) {
     let counts = format!("kind = {}; rotationCount = {}; translationCount = {}", j.kind, j.rotation_count, j.translation_count);
     let lists = "rotation = some (rotationBack ∷ rotationBack ∷ []); translation = some (translationBack ∷ []);";
     let read = format!("done (some (record {{ {counts}; {lists} }}))");
-    for (name, rows) in [("limitsBack", [2, 1]), ("noRotationRow", [1, 1]), ("noTranslationRow", [2, 0])] {
+    s.published("limitsBack", "readJoints joints21 2 1 base", &read);
+    for (name, rows) in [("noRotationRow", [1, 1]), ("noTranslationRow", [2, 0])] {
         let holds = rotations.len() <= rows[0] && translations.len() <= rows[1];
         let right = if holds { &read } else { "refused 1" };
         s.joined(name, format!("readJoints joints21 {} {} base", rows[0], rows[1]), right);
