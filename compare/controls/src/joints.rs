@@ -56,6 +56,11 @@ pub fn sheet() -> Sheet {
     s.published("sixBeforeFive", "jointsWritten 0 (replicate 65536 rotation1) []", format!("refused {number}"));
     let Written::Refused(number) = joints_write(&[], &vec![t; 65_536]) else { panic!("65,536 limits are too many") };
     s.published("sixOfTranslations", "jointsWritten 0 [] (replicate 65536 translation1)", format!("refused {number}"));
+    // the spec's limits of no slots stand for these
+    s.define("rotation0", format!("record {{ {}; other = [] }}", rotation(&r)));
+    s.define("translation0", format!("record {{ {}; other = [] }}", translation(&t)));
+    assert!(!joints_write(&vec![r; 65_535], &vec![t; 65_535]).section().is_empty(), "no buffer holds them");
+    s.text("mostLimits", "jointsWritten 0 (replicate 65535 rotation0) (replicate 65535 translation0)", "refused 5");
     let limits = "(rotation1 ∷ []) (translation1 ∷ [])";
     for (name, size) in [("jointsFit", 320), ("jointsShort", 319)] {
         let fits = joints_write(&[r], &[t]).section().len() <= size;

@@ -19,6 +19,7 @@ joints-controls =
       rotationsFirst = refl;
       sixBeforeFive = refl;
       sixOfTranslations = refl;
+      mostLimits = refl;
       jointsFit = refl;
       jointsShort = refl;
       fresh = refl;

@@ -49,6 +49,13 @@ translationBack =
           111 ∷ 112 ∷ 113 ∷ 311 ∷ 114 ∷ 115 ∷ 116 ∷ 315 ∷ [];
     }
 
+-- limits with no slots, so that many are counted in a short time
+abbrev pub rotation0 : RotationLimit
+rotation0 = record { id = 5; second = 6; least = words3 101 102 103; greatest = words3 104 105 106; other = [] }
+
+abbrev pub translation0 : TranslationLimit
+translation0 = record { id = 65543; least = words3 111 112 113; greatest = words3 114 115 116; other = [] }
+
 -- joints of two rotation limits and one translation limit
 abbrev pub joints21 : Section
 joints21 = halves (jointsLayout (rotation1 ∷ rotation1 ∷ []) (translation1 ∷ [])) []
@@ -97,6 +104,8 @@ pub record JointsControls : Type 0 where
   -- 65,536 limits and no buffer: 6 goes before 5
   pub sixBeforeFive : jointsWritten 0 (replicate 65536 rotation1) [] ≡ refused 6
   pub sixOfTranslations : jointsWritten 0 [] (replicate 65536 translation1) ≡ refused 6
+  -- 65,535 of each kind are not too many: 5 of no buffer
+  pub mostLimits : jointsWritten 0 (replicate 65535 rotation0) (replicate 65535 translation0) ≡ refused 5
   -- one limit of each kind wants 320 bytes
   pub jointsFit : jointsWritten 320 (rotation1 ∷ []) (translation1 ∷ []) ≡ done (jointsLayout (rotation1 ∷ []) (translation1 ∷ []))
   pub jointsShort : jointsWritten 319 (rotation1 ∷ []) (translation1 ∷ []) ≡ refused 5
