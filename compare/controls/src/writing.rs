@@ -2,7 +2,7 @@
 
 use crate::lent::{write_refusal, PROGRAM_DERIVED};
 use crate::sheet::Sheet;
-use crate::term::{list, numbers, truth};
+use crate::term::{applied, list, numbers, truth};
 use cases::trial::{plain_bone, NONE};
 use oracle::{names_fit, u32_at, u64_at, write, Bone, NameBytes};
 
@@ -40,6 +40,13 @@ fn refusals(s: &mut Sheet) {
         ("justFits", "programDeriveRoom", 352, one(unnamed), 1, false),
         ("five", "programDeriveRoom", 351, one(unnamed), 1, false),
     ];
+    let mut bones = vec![Bone { index: 1, ..plain_bone(0, 0) }; 8_191];
+    bones[0] = Bone { index: NONE, ..plain_bone(0, NONE) };
+    let rows = cases::tables::derived(bones.len());
+    let number = write_refusal(&bones, false, rows, 0).expect("a refusal");
+    let room = applied("lentRows", &rows.map(|n| n as u64));
+    s.define("manyChildren", "indexed minusOne minusOne ∷ replicate 8190 (indexed 1 0)".into());
+    s.text("threeBeforeFive", format!("written (halves [] []) ({room}) 0 manyChildren noFree"), format!("refused {number}"));
     for (name, room, size, bones, n, lost) in cases {
         let derived = if room == "noDeriving" { [0; 7] } else { PROGRAM_DERIVED };
         let refusal = write_refusal(&vec![plain_bone(0, NONE); n], lost, derived, size);

@@ -15,6 +15,7 @@ writing-controls =
       fourBeforeOne = refl;
       secondName = refl;
       oneBeforeFive = refl;
+      threeBeforeFive = refl;
       justFits = refl;
       five = refl;
     }

@@ -1,10 +1,11 @@
--- Controls of writing (see `Controls`): the free words, pointers to nothing, the names that are taken, and the order of the refusals 2, 4,
--- 1 and 5, which the Rust has not: it is that of docs/FORMAT.md, "Who can cause a refusal". No case here gives 3, which wants more than
--- 8,000 bones. Definitions only.
+-- Controls of writing (see `Controls`): the free words, pointers to nothing, the names that are taken, and the order of the refusals, which
+-- the Rust has not: it is that of docs/FORMAT.md, "Who can cause a refusal". Of 3 there is one case alone, since many bones take long to
+-- write. Definitions only.
 use mathlib.Core.Path.{_≡_}
+use Prim.Native.Nat.{ℕ}
 use mathlib.Core.Bool.{true, false}
 use mathlib.Core.Option.{Option, none, some}
-use mathlib.Core.List.{[], _∷_, map}
+use mathlib.Core.List.{List, [], _∷_, map}
 use lib.ListN.{replicate}
 use Rattle.format.specs.Result.{refused, done}
 use Rattle.format.specs.Field.{field}
@@ -38,6 +39,26 @@ placedBone n =
       kept = words4 0 0 0 0;
     }
 
+-- a bone of this index and parent, with no name
+abbrev pub indexed : (index parent : ℕ) → Bone Place
+indexed i p =
+    record {
+      rotation = words4 0 0 0 0x3F80_0000;
+      translation = words3 0 0 0;
+      scale = words3 0x3F80_0000 0x3F80_0000 0x3F80_0000;
+      nextSibling = minusOne;
+      parent = p;
+      name = none;
+      flags = 0;
+      index = i;
+      tag = 0;
+      kept = words4 0 0 0 0;
+    }
+
+-- 8,191 bones, the first its own child: 8,192 layers
+abbrev pub manyChildren : List (Bone Place)
+manyChildren = indexed minusOne minusOne ∷ replicate 8190 (indexed 1 0)
+
 pub record WritingControls : Type 0 where
   -- the four free words lie at 28, 80, 84 and 88
   pub freeWords : map (field 4 (layout [] (words4 1 2 3 4))) (28 ∷ 80 ∷ 84 ∷ 88 ∷ []) ≡ 1 ∷ 2 ∷ 3 ∷ 4 ∷ []
@@ -55,6 +76,9 @@ pub record WritingControls : Type 0 where
       written (halves [] []) programDeriveRoom 10000 (placedBone none ∷ placedBone (some (placeAt 0x7000_0000 1)) ∷ []) noFree ≡ refused 4
   -- no tables and no buffer: 1 goes before 5
   pub oneBeforeFive : written (halves [] []) noDeriving 0 (placedBone none ∷ []) noFree ≡ refused 1
+  -- 65,536 child entries and no buffer: 3 goes before 5
+  pub threeBeforeFive :
+      written (halves [] []) (lentRows 13297 8191 8191 8191 8191 65536 32768) 0 manyChildren noFree ≡ refused 3
   -- one root wants 352 bytes, and is written into just so many
   pub justFits :
       written (halves [] []) programDeriveRoom 352 (placedBone none ∷ []) noFree ≡ done (layout (plain minusOne 0 0 ∷ []) noFree)
