@@ -16,9 +16,17 @@ pub fn sheet() -> Sheet {
     let counts = [0u32, 1, 2, 10, 11];
     let chains = counts.map(|n| build_bone_tags(&vec![plain_bone(0, NONE); n as usize]).len() as u32);
     s.published("chainCounts", format!("map (λ n. length (chains (replicate n 0))) ({})", numbers(&counts)), numbers(&chains));
-    for (name, parents) in [("rootMinusTwo", [-2, 0]), ("rootLeast", [i16::MIN, 0])] {
-        let (_, children) = build_indices(&rig_of_parents(&parents));
-        let left = format!("children (0 ∷ 1 ∷ []) ({})", numbers(&parents.map(|p| p as u16)));
+    let rigs: [(&'static str, &[i16]); 4] = [
+        ("rootMinusTwo", &[-2, 0]),
+        ("rootLeast", &[i16::MIN, 0]),
+        ("greatestParent", &[i16::MAX, 0]),
+        ("twoRoots", &[NONE, NONE, 0, 1]),
+    ];
+    for (name, parents) in rigs {
+        let (_, children) = build_indices(&rig_of_parents(parents));
+        let indices: Vec<u32> = (0..parents.len() as u32).collect();
+        let listed = list(parents.iter().map(|&p| if p == NONE { "minusOne".into() } else { number(p as u16) }));
+        let left = format!("children ({}) ({listed})", numbers(&indices));
         s.published(name, left, numbers(&children.iter().map(|&c| c as u16).collect::<Vec<_>>()));
     }
     matrices(&mut s);

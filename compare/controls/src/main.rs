@@ -12,6 +12,7 @@ mod joints;
 mod lent;
 mod program;
 mod reading;
+mod rows;
 mod section;
 mod sheet;
 mod term;
@@ -29,6 +30,7 @@ fn main() -> ExitCode {
         writing::sheet(),
         check::sheet(),
         joints::sheet(),
+        rows::sheet(),
         program::sheet(),
     ];
     let words: Vec<String> = std::env::args().skip(1).collect();

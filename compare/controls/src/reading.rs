@@ -1,17 +1,24 @@
-//! `ReadingControls`: halves and names, the pool, the bytes that must stand, the order of reading, and where 1 is met.
+//! `ReadingControls`: halves and names, fields and their widths, the pool, the bytes that must stand, the order of reading, and where
+//! 1 is met.
 
 use crate::control::{checks, children, kept, parents, readings};
 use crate::lent::{self, ReadAnswer};
-use crate::section::{check, control, empty, read, with, Edits};
+use crate::section::{check, control, empty, read, refusal, with, Edits};
 use crate::sheet::Sheet;
-use crate::term::{applied, list, numbers};
+use crate::term::{applied, list, numbers, row};
 use cases::tables::PROGRAM;
 use cases::Section;
-use oracle::{NameBytes, GRAPHICS_BASE, SYSTEM_BASE};
+use oracle::{Bone, NameBytes, GRAPHICS_BASE, SYSTEM_BASE};
 
 pub fn sheet() -> Sheet {
     let mut s = Sheet::new("format/specs/ReadingControls.antt");
     names(&mut s);
+    fields(&mut s);
+    let shared = [(488, 0), (489, 2)];
+    let bones = read(&shared).ok().flatten().and_then(|r| r.bones).expect("bones");
+    let listed = list(bones.iter().map(|b| b.name.as_ref().map_or("none".into(), |name| format!("some ({})", numbers(name)))));
+    s.published("sharedName", format!("namesRead (bonesBack ({}))", with("controlWith", &shared)), listed);
+    readings(&mut s, "boneAtEntry", &[(32, 208), (33, 0)]);
     readings(&mut s, "laterReplaces", &[(328, 16), (329, 1), (488, 16), (489, 1)]);
     readings(&mut s, "blockAtEntry", &[(32, 224), (33, 0)]);
     parents(&mut s, "parentsAtInverse", &[(56, 16), (57, 2)]);
@@ -28,8 +35,12 @@ pub fn sheet() -> Sheet {
     checks_empty(&mut s, "entry15", &[(16, 104), (19, 80), (24, 1), (104, 97), (107, 80)]);
     checks_empty(&mut s, "emptyBlock", &[(32, 128), (35, 80)]);
     checks_empty(&mut s, "blockPastEnd", &[(32, 129), (35, 80)]);
+    readings(&mut s, "bucketsPastEnd", &[(16, 96), (17, 3)]);
     room(&mut s);
     readings(&mut s, "bucketsBefore13", &[(32, 15), (33, 0), (35, 0), (19, 64)]);
+    readings(&mut s, "bonesBeforeInverse", &[(32, 15), (33, 0), (35, 0), (43, 64)]);
+    readings(&mut s, "inverseBeforeLocal", &[(43, 64), (50, 1)]);
+    readings(&mut s, "localBeforeParents", &[(51, 64), (58, 1)]);
     checks(&mut s, "nameAtRoot", &[(328, 0), (329, 0)]);
     checks(&mut s, "nameAtBlock", &[(328, 0), (329, 1)]);
     checks(&mut s, "linkAtBuckets", &[(248, 112), (251, 80)]);
@@ -46,6 +57,8 @@ fn names(s: &mut Sheet) {
     let halves = format!("halves ({}) ({})", numbers(&system), numbers(&graphics));
     let part = NameBytes::new(&system, &graphics).at(GRAPHICS_BASE, 1).map(numbers);
     s.published("graphicsHalf", format!("part ({halves}) 0x6000_0000 1"), format!("done ({})", part.expect("a byte")));
+    let second = NameBytes::new(&[], &[1, 2]).at(GRAPHICS_BASE + 1, 1).map(numbers).expect("a byte");
+    s.published("graphicsSecond", "part (halves [] (1 ∷ 2 ∷ [])) 0x6000_0001 1", format!("done ({second})"));
     checks(s, "nameAtEnd", &[(328, 176), (329, 3)]);
     let long = NameBytes::new(&[65; 300], &[]).name(SYSTEM_BASE).expect("a name");
     let bytes = long.bytes().map(|b| b.to_string());
@@ -54,6 +67,25 @@ fn names(s: &mut Sheet) {
     let c = control(&[]);
     let lost = NameBytes::new(&c.system, &c.graphics).at(0x7000_0000, 2).unwrap_or(&[]).to_vec();
     s.published("nameOutside", "nameBytes (controlWith []) (placeAt 0x7000_0000 2)", numbers(&lost));
+}
+
+/// Bytes set to 1 that one field alone has, and the fields read.
+fn fields(s: &mut Sheet) {
+    let ones: [(&'static str, &[u32]); 2] = [("pointersOf64Bits", &[20, 36, 44, 52, 60, 68, 220]), ("countsOf16Bits", &[97, 95])];
+    for (name, offsets) in ones {
+        let left = format!("map (λ a. readWith ((a, 1) ∷ [])) ({})", numbers(offsets));
+        s.published(name, left, list(offsets.iter().map(|&at| refusal(&read(&[(at as usize, 1)])))));
+    }
+    let edits = [(337, 1), (339, 1), (341, 1)];
+    let bones = read(&edits).ok().flatten().and_then(|r| r.bones).expect("bones");
+    let words = |b: &Bone| [b.flags, b.index as u16, b.tag, b.next_sibling as u16, b.parent as u16];
+    let listed = list(bones.iter().map(|b| format!("({})", numbers(&words(b)))));
+    s.published("fieldsOf16Bits", format!("fieldsRead ({})", with("readWith", &edits)), listed);
+    let edits = [(28, 1), (80, 2), (84, 3), (88, 4)];
+    let r = read(&edits).ok().flatten().expect("a section that reads");
+    let counts = [r.bucket_count, r.bone_count, r.child_count].map(u32::from);
+    let left = format!("skeletonFields (readSkeleton ({}) programRoom base noRows)", with("controlWith", &edits));
+    s.published("skeletonRead", left, row(&[&[r.kind][..], &r.free, &counts].concat()));
 }
 
 fn checks_empty(s: &mut Sheet, name: &'static str, edits: &Edits) {

@@ -7,7 +7,8 @@ pub enum Source {
     Published,
     /// docs/FORMAT.md's text over published functions: check, lookup, search, and a reading in few rows.
     Joined,
-    /// docs/FORMAT.md's text alone: the sizes of the tables for deriving, the order of the writer's refusals, what the program prints.
+    /// docs/FORMAT.md's text alone: the sizes of the tables for deriving, the words of rows, the order of the writers' refusals, the
+    /// program's tables and what it prints.
     Text,
     /// Names what other lines are about, and has no value.
     Named,

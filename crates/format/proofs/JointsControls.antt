@@ -8,9 +8,19 @@ unfolding everything
 joints-controls =
     record {
       laid = refl;
+      emptyLists = refl;
+      limitsBack = refl;
+      noRotationRow = refl;
+      noTranslationRow = refl;
+      jointsAtZero = refl;
       fiftyTwo = refl;
       fiftyOne = refl;
       limitBytesFirst = refl;
+      rotationsFirst = refl;
       sixBeforeFive = refl;
+      sixOfTranslations = refl;
+      mostLimits = refl;
+      jointsFit = refl;
+      jointsShort = refl;
       fresh = refl;
     }

@@ -10,8 +10,13 @@ program-controls =
       highBytes = refl;
       searches = refl;
       firstOfTwo = refl;
+      searchAtZero = refl;
+      programTables = refl;
+      programDerives = refl;
       printsOk = refl;
       longest = refl;
       tooLong = refl;
+      printsDigits = refl;
+      noGraphics = refl;
       printsRefused = refl;
     }

@@ -8,10 +8,14 @@ unfolding everything
 writing-controls =
     record {
       freeWords = refl;
+      oneRootPointers = refl;
       longestName = refl;
       twoBeforeFour = refl;
       mostBones = refl;
       fourBeforeOne = refl;
+      secondName = refl;
       oneBeforeFive = refl;
+      threeBeforeFive = refl;
+      justFits = refl;
       five = refl;
     }

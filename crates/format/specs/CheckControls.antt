@@ -8,6 +8,7 @@ use Rattle.format.specs.Lookup.{lookup}
 use Rattle.format.specs.Check.{check}
 use Rattle.format.specs.Program.{programRoom, programDeriveRoom}
 use Rattle.format.specs.Controls.{controlWith, checkWith, shortened}
+use Rattle.format.specs.DerivingControls.{lentRows}
 use Rattle.format.specs.WritingControls.{noDeriving}
 
 pub record CheckControls : Type 0 where
@@ -18,6 +19,8 @@ pub record CheckControls : Type 0 where
   pub fourteenFirst : lookup (controlWith ((94, 1) ∷ (219, 64) ∷ [])) base 16 ≡ refused 14
   -- bit 16 of the first entry's tag is set: it is not tag 5, and the third is found
   pub keyOf32Bits : lookup (controlWith ((210, 1) ∷ [])) base 5 ≡ done (some 0)
+  -- bit 16 of the first entry's position is set
+  pub positionOf32Bits : lookup (controlWith ((214, 1) ∷ [])) base 5 ≡ done (some 0x1_0002)
   -- no bucket pointer, and no buckets
   pub noBucketPointer : lookup (controlWith ((16, 0) ∷ (19, 0) ∷ [])) base 5 ≡ done none
   pub noBucketCount : lookup (controlWith ((24, 0) ∷ [])) base 5 ≡ done none
@@ -33,6 +36,8 @@ pub record CheckControls : Type 0 where
   pub inverseFirst : checkWith ((528, 13) ∷ (720, 1) ∷ []) ≡ refused 24
   -- the first entry's link is 0, and there are no tables for deriving: 1 goes before 21
   pub oneBefore21 : check (controlWith ((216, 0) ∷ (219, 0) ∷ [])) programRoom noDeriving base ≡ refused 1
+  -- the bones pointer is 16: deriving wants the rows of no bones, though the parents of three stand
+  pub rowsOfNoBones : check (controlWith ((33, 0) ∷ (35, 0) ∷ [])) programRoom (lentRows 0 0 0 0 0 8 4) base ≡ refused 21
   -- the children pointer is 0
   pub noChildren : checkWith ((64, 0) ∷ (65, 0) ∷ (67, 0) ∷ []) ≡ refused 23
   -- the last entry links to the first

@@ -60,6 +60,10 @@ pub record DerivingControls : Type 0 where
   -- a root is any bone with a negative parent: -2, and -32,768
   pub rootMinusTwo : children (0 ∷ 1 ∷ []) (65534 ∷ 0 ∷ []) ≡ 1 ∷ 0 ∷ 1 ∷ 0 ∷ 1 ∷ 0 ∷ 1 ∷ 0 ∷ []
   pub rootLeast : children (0 ∷ 1 ∷ []) (32768 ∷ 0 ∷ []) ≡ 1 ∷ 0 ∷ 1 ∷ 0 ∷ 1 ∷ 0 ∷ 1 ∷ 0 ∷ []
+  -- the parent 32,767 is not negative: no root, and so no children
+  pub greatestParent : children (0 ∷ 1 ∷ []) (32767 ∷ 0 ∷ []) ≡ []
+  -- two roots and a child of each: the children of both
+  pub twoRoots : children (0 ∷ 1 ∷ 2 ∷ 3 ∷ []) (minusOne ∷ minusOne ∷ 0 ∷ 1 ∷ []) ≡ 2 ∷ 0 ∷ 3 ∷ 1 ∷ 3 ∷ 1 ∷ 3 ∷ 1 ∷ []
   -- a bone that is its own parent goes up once, since it is one bone
   pub ownParent : getD (inverseOf (moved 0 ∷ []) (moved 0)) 12 0 ≡ 0xC000_0000
   -- three steps up

@@ -29,4 +29,5 @@ pub mod DerivingControls
 pub mod WritingControls
 pub mod CheckControls
 pub mod JointsControls
+pub mod RowsControls
 pub mod ProgramControls

@@ -1,18 +1,20 @@
--- Controls of reading (see `Controls`): halves and names, the pool, bytes that must stand, the order, where 1 is met. Definitions only.
+-- Controls of reading (see `Controls`): halves and names, fields and their widths, the pool, bytes that must stand, the order, where
+-- 1 is met. Definitions only.
 use mathlib.Core.Path.{_≡_}
 use Prim.Native.Nat.{ℕ}
 use mathlib.Core.Option.{Option, none, some}
-use mathlib.Core.List.{List, [], _∷_}
+use mathlib.Core.List.{List, [], _∷_, map}
 use lib.ListN.{length, replicate}
 use Rattle.format.specs.Result.{Res, refused, done}
 use Rattle.format.specs.Section.{Section, Place, part, nameAt, nameBytes}
-use Rattle.format.specs.Bone.{words4}
-use Rattle.format.specs.Tables.{Room}
-use Rattle.format.specs.Layout.{Bytes, base, layout}
+use Rattle.format.specs.Bone.{Bone, words4}
+use Rattle.format.specs.Tables.{Room, SkeletonRow, Tables, noRows}
+use Rattle.format.specs.Read.{readSkeleton}
+use Rattle.format.specs.Layout.{Bytes, NamedBone, base, layout}
 use Rattle.format.specs.Check.{Read, read, check}
 use Rattle.format.specs.Program.{programRoom, programDeriveRoom}
 use Rattle.format.specs.TrialCases.{noFree}
-use Rattle.format.specs.Controls.{edited, controlWith, readWith, checkWith, childrenRead, keptRead}
+use Rattle.format.specs.Controls.{edited, controlWith, readWith, checkWith, bonesBack, childrenRead, keptRead}
 
 -- system bytes and graphics bytes
 abbrev pub halves : Bytes → Bytes → Section
@@ -41,17 +43,58 @@ inverseCount (done (some r)) = length (r .inverse)
 inverseCount (done none) = 0
 inverseCount (refused n) = 0
 
+-- the kind word, the free words and the stored counts of the skeleton read
+abbrev pub skeletonFields : Res (Option SkeletonRow × Tables) → List ℕ
+skeletonFields (done (some s, t)) =
+    s .kind ∷ s .free .x ∷ s .free .y ∷ s .free .z ∷ s .free .w ∷ s .bucketCount ∷ s .boneCount ∷ s .childCount ∷ []
+skeletonFields (done (none, t)) = []
+skeletonFields (refused n) = []
+
+-- flags, index, tag, next sibling and parent of each bone read
+abbrev pub boneFields : Bone Place → List ℕ
+boneFields b = b .flags ∷ b .index ∷ b .tag ∷ b .nextSibling ∷ b .parent ∷ []
+
+abbrev pub fieldsRead : Res (Option Read) → List (List ℕ)
+fieldsRead (done (some r)) = map boneFields (r .bones)
+fieldsRead (done none) = []
+fieldsRead (refused n) = []
+
+-- the names of the bones read
+abbrev pub namesRead : Res (Option (List NamedBone)) → List (Option Bytes)
+namesRead (done (some bs)) = map (λ (b : NamedBone). b .name) bs
+namesRead (done none) = []
+namesRead (refused n) = []
+
 pub record ReadingControls : Type 0 where
   -- ---- halves and names
   -- 60000000 hex is the first byte of the graphics half
   pub graphicsHalf : part (halves (1 ∷ []) (2 ∷ [])) 0x6000_0000 1 ≡ done (2 ∷ [])
+  -- 60000001 hex is the second
+  pub graphicsSecond : part (halves [] (1 ∷ 2 ∷ [])) 0x6000_0001 1 ≡ done (2 ∷ [])
   -- bone 0's name lies at the section's end: an empty name
   pub nameAtEnd : checkWith ((328, 176) ∷ (329, 3) ∷ []) ≡ done (some 3)
   -- a name of 300 bytes up to the end of its half
   pub longName : nameAt (halves (replicate 300 65) []) base ≡ done (placeAt base 300)
   -- a place in neither half has no bytes
   pub nameOutside : nameBytes (controlWith []) (placeAt 0x7000_0000 2) ≡ []
+  -- ---- the fields and their widths
+  -- bit 32 of each pointer of the skeleton, and of the first entry's link, is set
+  pub pointersOf64Bits : map (λ a. readWith ((a, 1) ∷ [])) (20 ∷ 36 ∷ 44 ∷ 52 ∷ 60 ∷ 68 ∷ 220 ∷ []) ≡ replicate 7 (refused 10)
+  -- bit 8 of the child count is set; bit 8 of the bone count: the fourth bone lies where bone 0's name was read
+  pub countsOf16Bits : map (λ a. readWith ((a, 1) ∷ [])) (97 ∷ 95 ∷ []) ≡ refused 11 ∷ refused 12 ∷ []
+  -- bit 8 of bone 0's flags, index and tag is set
+  pub fieldsOf16Bits :
+      fieldsRead (readWith ((337, 1) ∷ (339, 1) ∷ (341, 1) ∷ [])) ≡
+      (263 ∷ 256 ∷ 261 ∷ 2 ∷ 65535 ∷ []) ∷ (0 ∷ 1 ∷ 16 ∷ 65535 ∷ 0 ∷ []) ∷ (7 ∷ 2 ∷ 5 ∷ 2 ∷ 0 ∷ []) ∷ []
+  -- the free words are 1 to 4: the kind word, these and the counts of buckets, bones and children
+  pub skeletonRead :
+      skeletonFields (readSkeleton (controlWith ((28, 1) ∷ (80, 2) ∷ (84, 3) ∷ (88, 4) ∷ [])) programRoom base noRows) ≡
+      0x4061_3CA0 ∷ 1 ∷ 2 ∷ 3 ∷ 4 ∷ 11 ∷ 3 ∷ 8 ∷ []
   -- ---- the pool
+  -- bone 2's name lies at bone 0's: a name that is read already is given again
+  pub sharedName : namesRead (bonesBack (controlWith ((488, 0) ∷ (489, 2) ∷ []))) ≡ some (72 ∷ 101 ∷ []) ∷ none ∷ some (72 ∷ 101 ∷ []) ∷ []
+  -- bone 0 lies at the first entry: the block is 16 bytes before it
+  pub boneAtEntry : readWith ((32, 208) ∷ (33, 0) ∷ []) ≡ refused 12
   -- the names of bones 0 and 2 both lie at bone 0: read as a name, then as a bone, then asked for as a name
   pub laterReplaces : readWith ((328, 16) ∷ (329, 1) ∷ (488, 16) ∷ (489, 1) ∷ []) ≡ refused 12
   -- the bones block lies at the first entry
@@ -83,6 +126,8 @@ pub record ReadingControls : Type 0 where
   -- a block of no bones needs none, but a legal address: the section's end is one, and the next is not
   pub emptyBlock : checkEmptyWith ((32, 128) ∷ (35, 80) ∷ []) ≡ done (some 0)
   pub blockPastEnd : checkEmptyWith ((32, 129) ∷ (35, 80) ∷ []) ≡ refused 11
+  -- the bucket array begins 80 bytes before the section's end: all its 88 bytes must stand
+  pub bucketsPastEnd : readWith ((16, 96) ∷ (17, 3) ∷ []) ≡ refused 11
   -- ---- where 1 is met: behind the bytes of what takes the row
   -- no row for a bone, whose name's address has its bit 32 set
   pub nameBeforeRow : read (controlWith ((332, 1) ∷ [])) (roomWith 0 11 3 3 15) base ≡ refused 10
@@ -103,6 +148,12 @@ pub record ReadingControls : Type 0 where
   -- ---- the order of reading
   -- 10 of the buckets goes before 13 of the bones pointer 15
   pub bucketsBefore13 : readWith ((32, 15) ∷ (33, 0) ∷ (35, 0) ∷ (19, 64) ∷ []) ≡ refused 10
+  -- 13 of the bones pointer 15 goes before 10 of the inverse pointer
+  pub bonesBeforeInverse : readWith ((32, 15) ∷ (33, 0) ∷ (35, 0) ∷ (43, 64) ∷ []) ≡ refused 13
+  -- 10 of the inverse pointer goes before 11 of the local pointer
+  pub inverseBeforeLocal : readWith ((43, 64) ∷ (50, 1) ∷ []) ≡ refused 10
+  -- 10 of the local pointer goes before 11 of the parents pointer
+  pub localBeforeParents : readWith ((51, 64) ∷ (58, 1) ∷ []) ≡ refused 10
   -- bone 0's name lies at the skeleton, which is pooled last
   pub nameAtRoot : checkWith ((328, 0) ∷ (329, 0) ∷ []) ≡ done (some 3)
   -- bone 0's name lies at the bones block, which is pooled behind its bones
