@@ -4,13 +4,24 @@ use crate::lent::Lent;
 use crate::rigs::{tame, thousands, Drawn, COUNTS};
 use crate::timing::{timed, Row, Table};
 use cases::rigs::{chain, tree};
-use cases::trial::plain_bone;
+use cases::trial::{plain_bone, BUCKET_ENDS};
 use link::Derive;
-use oracle::{Bone, PreparedBones};
+use oracle::{num_hash_buckets, Bone, PreparedBones};
 use std::time::Duration;
 
 /// The most bones of a chain whose indices and matrices the Rust is asked for.
 const LONGEST_CHAIN: usize = 10_000;
+
+/// How many buckets there are: of every count that a skeleton can have, and of counts that give each answer equally often.
+pub fn buckets(table: &Table, library: &dyn Derive) {
+    let every: Vec<usize> = (0..=65_535).collect();
+    let ends: Vec<usize> = BUCKET_ENDS.iter().flat_map(|&(_, least, greatest)| [least, greatest]).collect();
+    for (input, counts) in [("each count from 0 to 65,535", every), ("the ends of each answer, in turn", ends.repeat(1_000))] {
+        let row = Row { call: "buckets", input, units: counts.len(), unit: "a count" };
+        let all = |buckets: &dyn Fn(usize) -> usize| timed(|| counts.iter().fold(0, |sum, &n| sum ^ buckets(n)));
+        table.both(&row, || all(&|n| library.num_hash_buckets(n)), || all(&num_hash_buckets));
+    }
+}
 
 /// Tags, indices and matrices of random trees and chains.
 pub fn rigs(table: &Table, library: &dyn Derive) {

@@ -63,6 +63,7 @@ fn run(words: &[String]) -> Result<(), String> {
     let wanted = |group: &str| words.is_empty() || words.iter().any(|word| word == group);
     let table = Table::begin();
     if let Some(library) = link::derive().filter(|_| wanted("deriving")) {
+        derive::buckets(&table, library);
         derive::rigs(&table, library);
         derive::one_index(&table, library)?;
     }

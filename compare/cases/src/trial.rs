@@ -5,6 +5,27 @@ use oracle::Bone;
 pub const ONE: u32 = 0x3F80_0000;
 pub const NONE: i16 = -1;
 
+/// Each number of buckets, with the least and the greatest count of bones that has it.
+pub const BUCKET_ENDS: [(usize, usize, usize); 17] = [
+    (11, 0, 10),
+    (29, 11, 28),
+    (59, 29, 58),
+    (107, 59, 106),
+    (191, 107, 190),
+    (331, 191, 330),
+    (563, 331, 562),
+    (953, 563, 952),
+    (1609, 953, 1608),
+    (2729, 1609, 2728),
+    (4621, 2729, 4620),
+    (7841, 4621, 7840),
+    (13297, 7841, 13296),
+    (22571, 13297, 22570),
+    (38351, 22571, 38350),
+    (65167, 38351, 65166),
+    (65521, 65167, 65535),
+];
+
 /// A bone with no turn, no shift and no name; its index and tag are its position.
 pub fn plain_bone(position: usize, parent: i16) -> Bone {
     Bone {

@@ -1,18 +1,14 @@
-//! `DerivingControls`: buckets, chains, children, inverse matrices, and the sizes of the tables.
+//! `DerivingControls`: chains, children, inverse matrices, and the sizes of the tables.
 
 use crate::control::inverse;
 use crate::lent::derives;
 use crate::sheet::Sheet;
-use crate::term::{applied, list, number, numbers, truth};
+use crate::term::{applied, list, number, numbers, signed, truth};
 use cases::trial::{plain_bone, rig_of_parents, NONE, ONE};
-use oracle::{build_bone_tags, build_indices, num_hash_buckets, Bone};
+use oracle::{build_bone_tags, build_indices, Bone};
 
 pub fn sheet() -> Sheet {
     let mut s = Sheet::new("format/specs/DerivingControls.antt");
-    let ladder = [28, 58, 106, 190, 330, 562, 952, 1_608, 2_728, 4_620, 7_840, 13_296, 22_570, 38_350];
-    let bounds: Vec<u32> = ladder.into_iter().flat_map(|n| [n, n + 1]).collect();
-    let buckets: Vec<u32> = bounds.iter().map(|&n| num_hash_buckets(n as usize) as u32).collect();
-    s.published("ladder", format!("map numHashBuckets ({})", numbers(&bounds)), numbers(&buckets));
     let counts = [0u32, 1, 2, 10, 11];
     let chains = counts.map(|n| build_bone_tags(&vec![plain_bone(0, NONE); n as usize]).len() as u32);
     s.published("chainCounts", format!("map (λ n. length (chains (replicate n 0))) ({})", numbers(&counts)), numbers(&chains));
@@ -25,9 +21,7 @@ pub fn sheet() -> Sheet {
     for (name, parents) in rigs {
         let (_, children) = build_indices(&rig_of_parents(parents));
         let indices: Vec<u32> = (0..parents.len() as u32).collect();
-        let listed = list(parents.iter().map(|&p| if p == NONE { "minusOne".into() } else { number(p as u16) }));
-        let left = format!("children ({}) ({listed})", numbers(&indices));
-        s.published(name, left, numbers(&children.iter().map(|&c| c as u16).collect::<Vec<_>>()));
+        s.published(name, format!("children ({}) ({})", numbers(&indices), signed(parents)), signed(&children));
     }
     matrices(&mut s);
     sizes(&mut s);

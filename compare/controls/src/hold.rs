@@ -26,7 +26,7 @@ pub fn hold(crates: &Path, sheets: &[Sheet]) -> ExitCode {
         };
         for line in &sheet.lines {
             let held = if line.source == Source::Named { &mut spec.definitions } else { &mut spec.fields };
-            let stands = held.remove(line.name);
+            let stands = held.remove(&line.name);
             lines += 1;
             if stands.as_deref().map(words) != Some(words(&line.term)) {
                 let stands = stands.unwrap_or("nothing".into());

@@ -1,4 +1,5 @@
-//! The controls: equations of `crates/*/specs/*Controls.antt`, each value computed anew.
+//! The trial cases and the controls: the fields of `crates/format/specs/TrialCases.antt` and `crates/*/specs/*Controls.antt`, each
+//! value computed anew.
 //!
 //!     controls                   prints them as they stand in the specs, and whence each value comes
 //!     controls --hold CRATES     compares them with the specs in that folder: a line for each that differs, and status 1
@@ -16,6 +17,7 @@ mod rows;
 mod section;
 mod sheet;
 mod term;
+mod trial;
 mod writing;
 
 use std::path::Path;
@@ -23,6 +25,7 @@ use std::process::ExitCode;
 
 fn main() -> ExitCode {
     let sheets = [
+        trial::sheet(),
         float::sheet(),
         control::sheet(),
         reading::sheet(),

@@ -14,9 +14,9 @@ pub enum Source {
     Named,
 }
 
-/// A field of the record, `left ≡ right`, or a definition.
+/// A field of the record, or a definition.
 pub struct Line {
-    pub name: &'static str,
+    pub name: String,
     pub term: String,
     pub source: Source,
 }
@@ -33,24 +33,29 @@ impl Sheet {
     }
 
     /// A definition of the file that other lines name.
-    pub fn define(&mut self, name: &'static str, term: String) {
-        self.lines.push(Line { name, term, source: Source::Named });
+    pub fn define(&mut self, name: &str, term: String) {
+        self.add(name, Source::Named, term);
     }
 
-    pub fn published(&mut self, name: &'static str, left: impl AsRef<str>, right: impl AsRef<str>) {
-        self.add(name, Source::Published, left.as_ref(), right.as_ref());
+    pub fn published(&mut self, name: &str, left: impl AsRef<str>, right: impl AsRef<str>) {
+        self.equation(name, Source::Published, left.as_ref(), right.as_ref());
     }
 
-    pub fn joined(&mut self, name: &'static str, left: impl AsRef<str>, right: impl AsRef<str>) {
-        self.add(name, Source::Joined, left.as_ref(), right.as_ref());
+    pub fn joined(&mut self, name: &str, left: impl AsRef<str>, right: impl AsRef<str>) {
+        self.equation(name, Source::Joined, left.as_ref(), right.as_ref());
     }
 
-    pub fn text(&mut self, name: &'static str, left: impl AsRef<str>, right: impl AsRef<str>) {
-        self.add(name, Source::Text, left.as_ref(), right.as_ref());
+    pub fn text(&mut self, name: &str, left: impl AsRef<str>, right: impl AsRef<str>) {
+        self.equation(name, Source::Text, left.as_ref(), right.as_ref());
     }
 
-    fn add(&mut self, name: &'static str, source: Source, left: &str, right: &str) {
-        self.lines.push(Line { name, term: format!("{left} ≡ {right}"), source });
+    fn equation(&mut self, name: &str, source: Source, left: &str, right: &str) {
+        self.add(name, source, format!("{left} ≡ {right}"));
+    }
+
+    /// A line in the words of its file.
+    pub fn add(&mut self, name: &str, source: Source, term: String) {
+        self.lines.push(Line { name: name.into(), term, source });
     }
 
     pub fn print(&self) {

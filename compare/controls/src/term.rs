@@ -36,6 +36,11 @@ pub fn numbers<T: Copy + Into<u64>>(items: &[T]) -> String {
     list(items.iter().map(|&n| number(n)))
 }
 
+/// Indices and parents, as the specs name -1.
+pub fn signed(items: &[i16]) -> String {
+    list(items.iter().map(|&n| if n == -1 { "minusOne".into() } else { number(n as u16) }))
+}
+
 /// Numbers written out, however alike they are.
 pub fn row<T: Copy + Into<u64>>(items: &[T]) -> String {
     items.iter().map(|&n| format!("{} ∷ ", number(n))).collect::<String>() + "[]"

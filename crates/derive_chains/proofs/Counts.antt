@@ -1,26 +1,46 @@
--- Laws of the numbers of buckets and entries: the ladder step by step, and what fewer than two bones have. Assumes nothing.
+-- Laws of the numbers of buckets and entries: which counts have the same, and what fewer than two bones have. Assumes nothing.
 use Prim.Native.Nat.{ℕ, zero, suc, _+_, _≤_, _<_}
 use native.Mathlib.Omega.{arith}
-use native.Mathlib.Numerals.{add-one}
-use mathlib.Core.Path.{_≡_, refl}
+use mathlib.Core.Path.{_≡_, refl, sym, _∙_}
 use mathlib.Core.Bool.{Bool, true, false, cond}
 use mathlib.Core.List.{List, [], _∷_}
-use lib.ListN.{length, getD, drop}
-use lib.Seq.{drop-cons}
-use lib.Dec.{ltb}
-use borrow.Author.Tests.{lt-ltb, le-ltb, ltb-true}
+use lib.Dec.{T, ltb, leb, leb→le}
+use borrow.Author.Tests.{lt-ltb, le-ltb, ltb-true, ltb-false}
+use Rattle.format.specs.Field.{Each}
 use Rattle.format.specs.Chains.{ladder, firstAbove, numHashBuckets, bucketCount, entryCount}
 
--- ---- the first of a list greater than n, from place i on
+-- ---- the first of a list greater than n
 
-module _ (n : ℕ) (l : List ℕ) (i : ℕ) (inside : i < length l) where
-  pub first-above-here : n < getD l i 0 → firstAbove n (drop i l) ≡ getD l i 0
+module _ (m n : ℕ) (from : m ≤ n) where
+  -- it stays until the count reaches it
+  first-above-stays : (l : List ℕ) → n < firstAbove m l → firstAbove n l ≡ firstAbove m l
   unfolding firstAbove
-  first-above-here h = rw (drop-cons l i 0 inside, lt-ltb n (getD l i 0) h)
+  first-above-stays [] below = refl
+  first-above-stays (b ∷ l) below = by (ltb m b) refl below (first-above-stays l)
+    where
+      by : (q : Bool) → ltb m b ≡ q → n < cond q b (firstAbove m l)
+          → (n < firstAbove m l → firstAbove n l ≡ firstAbove m l)
+          → firstAbove n (b ∷ l) ≡ cond q b (firstAbove m l)
+      by true e h k = rw (lt-ltb n b h)
+      by false e h k = rw (le-ltb n b (omega (arith, ltb-false m b e)), k h)
 
-  pub first-above-behind : getD l i 0 ≤ n → firstAbove n (drop i l) ≡ firstAbove n (drop (i + 1) l)
+  -- where none is above m, none is above n
+  first-above-none : (l : List ℕ) → Each (λ b. T (leb b m)) l → firstAbove n l ≡ 65521
   unfolding firstAbove
-  first-above-behind h = rw (drop-cons l i 0 inside, le-ltb n (getD l i 0) h, add-one)
+  first-above-none [] none = refl
+  first-above-none (b ∷ l) none = rw (le-ltb n b (omega (arith, leb→le b m (none .0))), first-above-none l (none .1))
+
+-- ---- the number of buckets
+
+-- a count has those of a smaller one until it reaches them
+pub buckets-stay : {m n b : ℕ} → numHashBuckets m ≡ b → m ≤ n → n < b → b ≡ numHashBuckets n
+unfolding numHashBuckets
+buckets-stay {m} {n} e from below = sym (first-above-stays m n from ladder (rw (sym e) at below) ∙ e)
+
+-- it has 65521 from the last of the ladder on
+pub buckets-end : {n : ℕ} → 65167 ≤ n → 65521 ≡ numHashBuckets n
+unfolding numHashBuckets
+buckets-end {n} from = sym (first-above-none 65167 n from ladder (search))
 
 -- ---- fewer than two bones
 

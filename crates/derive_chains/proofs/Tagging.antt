@@ -143,10 +143,10 @@ entry-rows tags = refl
 -- ---- one position, as the code enters it
 
 pub entered :
-    {tag tag′ p c : ℕ} {b e e′ : List ℕ} {x : TagEntry} → tag ≡ tag′ → EntryIs tag′ p (getD b (tag % c) 0) x
-    → e′ ≡ sets e (3 * p) (entryWords (meantEntry x)) → TagEntered tag′ p c b e (set b (tag % c) (p + 1)) e′
-entered {tag} {tag′} {p} {c} {b} t i h =
-    record { bucket = rw (t, add-one); entry = h ∙ rw (i .tagIs, i .positionIs, i .linkIs, t) }
+    {tag tag′ p c k : ℕ} {b e e′ : List ℕ} {x : TagEntry} → tag ≡ tag′ → k ≡ tag % c → EntryIs tag p (getD b k 0) x
+    → e′ ≡ sets e (3 * p) (entryWords (meantEntry x)) → TagEntered tag′ p c b e (set b k (p + 1)) e′
+entered {tag} {tag′} {p} {c} {k} {b} t m i h =
+    record { bucket = rw (m, t, add-one); entry = h ∙ rw (i .tagIs, i .positionIs, i .linkIs, m, t) }
 
 -- ---- the loop
 

@@ -51,13 +51,13 @@ fn tags_room(bones: usize, n: usize, buckets: usize, entries: usize) -> TableRoo
     TableRoom::Enough
 }
 
-// The entry of the bone at position p, in front of the entry that `link` leads to.
-fn entry_at(bones: &[u32], p: usize, link: u32) -> TagEntry
-    requires { ⌜ p < 65535 ⌝ }
-    ensures answer { λ r. ⌜ EntryIs (rowAt (now (bones .entry)) p .tag) p link r ⌝ }
+// The entry of a tag at position p, in front of the entry that `link` leads to.
+fn entry_at(tag: u16, p: usize, link: u32) -> TagEntry
+    requires { ⌜ p ≤ 65535 ⌝ }
+    ensures answer { λ r. ⌜ EntryIs tag p link r ⌝ }
 {
     TagEntry {
-        tag: tag_at(bones, p) as u32,
+        tag: tag as u32,
         position: p as u32,
         link: link,
     }
@@ -74,14 +74,24 @@ fn put_entry(entries: &mut [u32], p: usize, e: TagEntry)
     entries[at + format::ENTRY_LINK] = e.link;
 }
 
+// The bucket of a tag. Of many bones most tags are below the number of buckets, and the test takes less time than a division.
+fn bucket_of(tag: u16, count: usize) -> usize
+    requires { ⌜ 0 < count ⌝ }
+    ensures answer { λ r. ⌜ (r ≡ tag % count) × (r < count) ⌝ }
+{
+    let t = tag as usize;
+    if t < count { t } else { t % count }
+}
+
 // Enters position p: its entry goes in front of its bucket's chain.
 fn enter_tag(bones: &[u32], p: usize, count: usize, buckets: &mut [u32], entries: &mut [u32])
     requires { ⌜ (p < 65535) × (0 < count) × (count ≤ length (now buckets)) × (3 * p + 3 ≤ length (now entries)) ⌝ }
     ensures rows { λ _. ⌜ TagEntered (rowAt (now (bones .entry)) p .tag) p count
         (now (buckets .entry)) (now (entries .entry)) (now (buckets .exit)) (now (entries .exit)) ⌝ }
 {
-    let b = tag_at(bones, p) as usize % count;
-    let e = entry_at(bones, p, buckets[b]);
+    let tag = tag_at(bones, p);
+    let b = bucket_of(tag, count);
+    let e = entry_at(tag, p, buckets[b]);
     put_entry(entries, p, e);
     buckets[b] = p as u32 + 1;
 }

@@ -7,7 +7,6 @@ pub deriving-controls : DerivingControls
 unfolding everything
 deriving-controls =
     record {
-      ladder = refl;
       chainCounts = refl;
       rootMinusTwo = refl;
       rootLeast = refl;

@@ -6,7 +6,7 @@ use mathlib.Core.Option.{none}
 use mathlib.Core.List.{[], _∷_, map}
 use lib.ListN.{length, getD, replicate}
 use Rattle.format.specs.Bone.{Words3, Words4, words3, words4, minusOne}
-use Rattle.format.specs.Chains.{numHashBuckets, chains}
+use Rattle.format.specs.Chains.{chains}
 use Rattle.format.specs.Children.{children}
 use Rattle.format.specs.Matrices.{inverseOf, within}
 use Rattle.format.specs.Deriving.{DeriveRoom, derives}
@@ -45,16 +45,6 @@ abbrev pub lentRows : (buckets entries inverse local parents children pending : 
 lentRows b e i l p c q = record { buckets = b; entries = e; inverse = i; local = l; parents = p; children = c; pending = q }
 
 pub record DerivingControls : Type 0 where
-  -- on both sides of each step but the first and the last, which are in `TrialCases`
-  pub ladder :
-      map numHashBuckets (28 ∷ 29 ∷ 58 ∷ 59 ∷ 106 ∷ 107 ∷ 190 ∷ 191 ∷
-      330 ∷ 331 ∷ 562 ∷ 563 ∷ 952 ∷ 953 ∷ 1608 ∷ 1609 ∷
-      2728 ∷ 2729 ∷ 4620 ∷ 4621 ∷ 7840 ∷ 7841 ∷ 13296 ∷ 13297 ∷
-      22570 ∷ 22571 ∷ 38350 ∷ 38351 ∷ []) ≡
-      29 ∷ 59 ∷ 59 ∷ 107 ∷ 107 ∷ 191 ∷ 191 ∷ 331 ∷
-      331 ∷ 563 ∷ 563 ∷ 953 ∷ 953 ∷ 1609 ∷ 1609 ∷ 2729 ∷
-      2729 ∷ 4621 ∷ 4621 ∷ 7841 ∷ 7841 ∷ 13297 ∷ 13297 ∷ 22571 ∷
-      22571 ∷ 38351 ∷ 38351 ∷ 65167 ∷ []
   -- how many chains some bones have: fewer than two have none
   pub chainCounts : map (λ n. length (chains (replicate n 0))) (0 ∷ 1 ∷ 2 ∷ 10 ∷ 11 ∷ []) ≡ 0 ∷ 0 ∷ 11 ∷ 11 ∷ 29 ∷ []
   -- a root is any bone with a negative parent: -2, and -32,768

@@ -7,7 +7,7 @@ use crate::extent::Extent;
 use crate::share::{share, share_items};
 use crate::tally::{status, Tally};
 use cases::rigs::{chain, rig, rig_of, tree};
-use cases::trial::plain_bone;
+use cases::trial::{plain_bone, BUCKET_ENDS};
 use cases::{rows, Rng};
 use link::Derive;
 use oracle::{num_hash_buckets, Bone};
@@ -73,7 +73,7 @@ impl Runs<'_> {
     /// The ladder, and counts that no table could hold.
     fn buckets(&self, tally: &mut Tally) -> Result<(), Difference> {
         let place = Place { folder: self.folder, name: "buckets", seed: self.seed };
-        for n in (0..70_000).chain([1 << 31, 1 << 32, 1 << 63, usize::MAX]) {
+        for n in (0..=70_000).chain([1 << 31, 1 << 32, 1 << 63, usize::MAX]) {
             tally.count("buckets", "done");
             compare(&place, &Count(n), |c| self.library.num_hash_buckets(c.0), |c| num_hash_buckets(c.0))?;
         }
@@ -123,8 +123,8 @@ impl Runs<'_> {
         Ok(())
     }
 
-    /// The trial rigs of docs/FORMAT.md; a bone that is its own child; a circle and a bone under it; a pending list of more than
-    /// 4 * n bones.
+    /// The trial rigs of docs/FORMAT.md, those of the least and the greatest count of each number of buckets among them; a bone that
+    /// is its own child; a circle and a bone under it; a pending list of more than 4 * n bones.
     fn trial(&self, tally: &mut Tally) -> Result<(), Difference> {
         let by_position = |parents: &[i16]| (0..).zip(parents.iter().copied()).collect::<Vec<(i16, i16)>>();
         let rigs = [
@@ -145,6 +145,9 @@ impl Runs<'_> {
         }
         let multiples = [0, 11, 22].map(|tag| Bone { tag, ..plain_bone(0, -1) });
         self.exact(tally, Tags, &multiples)?;
+        for n in BUCKET_ENDS.into_iter().flat_map(|(_, least, greatest)| [least, greatest]) {
+            self.exact(tally, Tags, &tree(&mut Rng::new(self.seed), n))?;
+        }
         let singular = Bone { rotation: [0x3F00_0000, 0x3F00_0000, 0, 0], ..plain_bone(0, -1) };
         self.exact(tally, Matrices, &[singular])
     }

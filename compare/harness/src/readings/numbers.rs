@@ -1,30 +1,12 @@
 //! Numbers confirmed by running.
 
 use super::ask::{fresh_rotation_limit, num_hash_buckets, rage_joaat};
+use cases::trial::BUCKET_ENDS;
 
-/// The least and the greatest count of each answer, from 0 to 65,535.
+/// Every count from 0 to 65,535.
 pub fn ladder() {
-    const ENDS: [(usize, usize, usize); 17] = [
-        (11, 0, 10),
-        (29, 11, 28),
-        (59, 29, 58),
-        (107, 59, 106),
-        (191, 107, 190),
-        (331, 191, 330),
-        (563, 331, 562),
-        (953, 563, 952),
-        (1609, 953, 1608),
-        (2729, 1609, 2728),
-        (4621, 2729, 4620),
-        (7841, 4621, 7840),
-        (13297, 7841, 13296),
-        (22571, 13297, 22570),
-        (38351, 22571, 38350),
-        (65167, 38351, 65166),
-        (65521, 65167, 65535),
-    ];
     let mut next = 0;
-    for (buckets, least, greatest) in ENDS {
+    for (buckets, least, greatest) in BUCKET_ENDS {
         assert_eq!(least, next);
         assert!((least..=greatest).all(|n| num_hash_buckets(n) == buckets));
         next = greatest + 1;

@@ -9,7 +9,7 @@ pub struct Faulty(pub Option<Fault>);
 
 #[derive(Clone, Copy, Debug, PartialEq)]
 pub enum Fault {
-    /// The ladder turns one bone late.
+    /// One step of the ladder comes one bone late: 22,571 bones have 22,571 buckets.
     LadderLate,
     /// An entry holds its bone's index.
     IndexForPosition,
@@ -95,7 +95,7 @@ impl Faulty {
 
 impl Derive for Faulty {
     fn num_hash_buckets(&self, n: usize) -> usize {
-        num_hash_buckets(n.saturating_sub(self.is(LadderLate) as usize))
+        num_hash_buckets(n - (self.is(LadderLate) && n == 22_571) as usize)
     }
 
     fn build_bone_tags(&self, bones: &[u32], n: usize, buckets: &mut [u32], entries: &mut [u32], count: &mut usize) -> u32 {
