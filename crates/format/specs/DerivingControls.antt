@@ -1,4 +1,4 @@
--- Controls of deriving (see `Controls`): buckets, chains, children, inverse matrices, and the sizes of the tables. Definitions only.
+-- Controls of deriving (see `Controls`): chains, children, inverse matrices, and the sizes of the tables. Definitions only.
 use mathlib.Core.Path.{_≡_}
 use Prim.Native.Nat.{ℕ}
 use mathlib.Core.Bool.{true, false}
