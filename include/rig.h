@@ -27,7 +27,7 @@ extern "C" {
 /* ---- the number of the exports ---- */
 
 /* It rises with each change of a declaration, of the layout of a row or of fields, or of what a status means. */
-#define RIG_ABI 1
+#define RIG_ABI 2
 
 /* The number of the library that is linked. A caller compares the two once, before any other call, and makes none where they
  * differ: `if (rig_abi() != RIG_ABI) abort();`. A library without this function is older than number 1 and does not link. */
@@ -37,19 +37,21 @@ uint32_t rig_abi(void);
 
 /* What a call with a status answers: RIG_OK exactly for a result, RIG_NONE exactly for none, else the refusal, by which one knows
  * whose fault it is. Which refusals a call can give is proved: deriving 1 and 2; rig_write 1 to 5; rig_read and rig_search 1 and 10 to
- * 13; rig_check those and 21 to 25; rig_lookup 10, 11 and 14; rig_joints_read 1, 10 and 11; rig_joints_write 1, 5 and 6. */
+ * 13; rig_check those and 21 to 25; rig_lookup 10, 11 and 14; rig_joints_read 1, 10 and 11; rig_joints_write 1, 5, 6 and 35;
+ * rig_rotation_limit_write 5 and 35; rig_translation_limit_write 5. */
 enum rig_status {
     RIG_OK = 0,
 
     /* the caller's */
     RIG_TABLE_TOO_SHORT = 1,  /* a lent table has no room for a row that belongs in it: lend a longer one */
-    RIG_BUFFER_TOO_SHORT = 5, /* the output buffer is shorter than the section to write: lend a longer one */
+    RIG_BUFFER_TOO_SHORT = 5, /* the output buffer is shorter than the section or record to write: lend a longer one */
 
     /* of whoever made the bones or the limits */
     RIG_TOO_MANY_BONES = 2,    /* more than 65,535 bones, which a section cannot count */
     RIG_TOO_MANY_CHILDREN = 3, /* more than 65,535 child entries follow from the bones, which a section cannot count; in writing only */
     RIG_BAD_NAME = 4,          /* a bone's name has over 255 bytes, holds a zero byte or lies outside the name bytes; in writing only */
     RIG_TOO_MANY_LIMITS = 6,   /* more than 65,535 rotation limits, or translation limits */
+    RIG_BAD_LIMIT_ID = 35,     /* a rotation limit's id is above 65,535: its record has 16 bits for it; in writing only */
 
     /* of whoever wrote the section */
     RIG_BAD_ADDRESS = 10,    /* an address that is not 0 and in neither half of the section: not 5xxxxxxx or 6xxxxxxx hex */
@@ -108,6 +110,8 @@ static inline const char *rig_status_text(uint32_t status)
         return "the inverse matrices differ from those that follow from the bones' rotations, translations and parents";
     case RIG_LOCAL_DIFFER:
         return "the local matrices differ from those that follow from each bone's rotation, translation and scale";
+    case RIG_BAD_LIMIT_ID:
+        return "a rotation limit's bone id is above 65,535, the greatest that its record holds: give the limit an id from 0 to 65,535";
     case RIG_NONE:
         return "there is nothing: the root address is 0, or no bone is found";
     default:
@@ -190,18 +194,26 @@ enum {
     RIG_PENDING_WORDS = 2
 };
 
-/* A limit's row: its named fields, then every 4-byte slot of its record, the named fields among them. In writing the named
- * fields win over their slots. The id is slot 2; least and greatest are from slots 23 and 26 on in a rotation limit, 8 and 12
- * in a translation limit. */
+/* A limit's row: which word holds what. Id, least, greatest and the others begin at the same words in both kinds. The others are
+ * the 4-byte slots of the record that no field names, in their order; slot n is at offset 4 * n. Nothing is held twice: rows that
+ * were read are equal exactly when their records are, and a row written and read is as it was (of a rotation limit's last word the
+ * lower half). */
 enum {
-    RIG_LIMIT_ID = 0,       /* of a rotation limit the lower half, with a second 16-bit number in the upper; else all 32 bits */
+    RIG_LIMIT_ID = 0,       /* all 32 bits; a rotation limit's record has 16 for it, and writing refuses one above 65,535 */
     RIG_LIMIT_LEAST = 1,    /* 3 words */
     RIG_LIMIT_GREATEST = 4, /* 3 words */
-    RIG_LIMIT_SLOTS = 7,    /* 48 or 16 words */
-    RIG_ROTATION_SLOTS = 48,
-    RIG_ROTATION_WORDS = RIG_LIMIT_SLOTS + RIG_ROTATION_SLOTS, /* 55 */
-    RIG_TRANSLATION_SLOTS = 16,
-    RIG_TRANSLATION_WORDS = RIG_LIMIT_SLOTS + RIG_TRANSLATION_SLOTS /* 23 */
+    RIG_LIMIT_OTHER = 7,    /* 41 or 9 words */
+
+    /* of a rotation limit: slot 2 of its record is the id and the second number, 23 to 25 are least, 26 to 28 greatest */
+    RIG_ROTATION_OTHERS = 41, /* slots 0, 1, 3 to 22 and 29 to 47 */
+    RIG_ROTATION_SECOND = 48, /* lower half, a second 16-bit number; the upper half is stored as 0 and not looked at */
+    RIG_ROTATION_WORDS = 49,
+    RIG_ROTATION_BYTES = 192, /* its record */
+
+    /* of a translation limit: slot 2 of its record is the id, 8 to 10 are least, 12 to 14 greatest */
+    RIG_TRANSLATION_OTHERS = 9, /* slots 0, 1, 3 to 7, 11 and 15 */
+    RIG_TRANSLATION_WORDS = 16,
+    RIG_TRANSLATION_BYTES = 64 /* its record */
 };
 
 /* ---- how much to lend, in items of the table ---- */
@@ -230,7 +242,7 @@ enum {
 #define RIG_SECTION_MOST RIG_AS(size_t, 32243232)
 
 /* the bytes of a written section of r rotation and t translation limits */
-#define RIG_JOINTS_BYTES(r, t) (64 + 192 * RIG_AS(size_t, r) + 64 * RIG_AS(size_t, t))
+#define RIG_JOINTS_BYTES(r, t) (64 + RIG_ROTATION_BYTES * RIG_AS(size_t, r) + RIG_TRANSLATION_BYTES * RIG_AS(size_t, t))
 
 /* ---- fields: little-endian numbers in bytes ---- */
 
@@ -415,12 +427,21 @@ uint32_t rig_joints_read(const uint8_t *sys, size_t sys_len, const uint8_t *gfx,
 
 /* Writes the section of the first r rows of `rotation` and t of `translation` at the front of `out`, its record at its start.
  * RIG_OK: `*count` is RIG_JOINTS_BYTES(r, t), and what lies behind these bytes is as it was. Refuses 6 for r or t above 65,535, 1
- * where a table has fewer rows, 5; then `*count` is 0 and `out` as it was. */
+ * where a table has fewer rows, 35 where one of the r rotation limits has an id above 65,535, 5; then `*count` is 0 and `out` as it
+ * was. */
 uint32_t rig_joints_write(const uint32_t *rotation, size_t rotation_len, size_t r, const uint32_t *translation,
                           size_t translation_len, size_t t, uint8_t *out, size_t out_len, size_t *count);
 
-/* The 48 slots of a fresh rotation limit. Its named fields are 0: its row is seven zeros and these. */
-void rig_fresh_rotation_limit(uint32_t out[RIG_ROTATION_SLOTS]);
+/* The row of a fresh rotation limit: id, second number, least and greatest are 0, the others as docs/FORMAT.md lists them. */
+void rig_fresh_rotation_limit(uint32_t row[RIG_ROTATION_WORDS]);
+
+/* One limit. Reading gives the row of a record, whatever its bytes. Writing gives RIG_OK and the record at the front of `out`, behind
+ * which all is as it was; a record read and written has the bytes that it had. It refuses 35 for a rotation limit's id above 65,535,
+ * then 5 for a buffer shorter than the record; then `out` is as it was. */
+void rig_rotation_limit_read(const uint8_t bytes[RIG_ROTATION_BYTES], uint32_t row[RIG_ROTATION_WORDS]);
+uint32_t rig_rotation_limit_write(const uint32_t row[RIG_ROTATION_WORDS], uint8_t *out, size_t out_len);
+void rig_translation_limit_read(const uint8_t bytes[RIG_TRANSLATION_BYTES], uint32_t row[RIG_TRANSLATION_WORDS]);
+uint32_t rig_translation_limit_write(const uint32_t row[RIG_TRANSLATION_WORDS], uint8_t *out, size_t out_len);
 
 #ifdef __cplusplus
 }

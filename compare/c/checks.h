@@ -18,6 +18,7 @@ void status_texts(void);
 void bucket_counts(void);
 void hashes(void);
 void matrices(void);
+void limits(void);
 void joints(void);
 
 #endif

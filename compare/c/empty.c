@@ -2,6 +2,8 @@
 #include "checks.h"
 #include "desk.h"
 
+#include <string.h>
+
 /* ---- the calls that are lent a table ---- */
 
 struct slice {
@@ -12,7 +14,7 @@ struct slice {
 /* all that they are lent by a pointer and a number */
 enum {
     SYS, GFX, ROWS, BONES, BUCKETS, ENTRIES, INVERSE, LOCAL, PARENTS, CHILDREN, POOL, DERIVED_BUCKETS, DERIVED_ENTRIES,
-    DERIVED_INVERSE, DERIVED_LOCAL, DERIVED_PARENTS, DERIVED_CHILDREN, PENDING, OUT, NUMBERS, ROTATION, TRANSLATION, SLICES
+    DERIVED_INVERSE, DERIVED_LOCAL, DERIVED_PARENTS, DERIVED_CHILDREN, PENDING, OUT, NUMBERS, ROTATION, TRANSLATION, LIMIT, SLICES
 };
 
 /* and by a pointer alone */
@@ -20,6 +22,7 @@ struct lone {
     size_t n; /* bones, of which the rows are lent */
     size_t *fields, *count, *position;
     uint32_t *joint_fields;
+    const uint32_t *limit; /* a row */
 };
 
 #define LEND(i) s[i].at, s[i].len
@@ -60,8 +63,11 @@ CALL(check_none, rig_check(LEND(SYS), LEND(GFX), 0, LEND_READING, LEND_DERIVED, 
 CALL(joaat, rig_rage_joaat(LEND(SYS)))
 CALL(search, rig_search(LEND(SYS), LEND(GFX), RIG_WRITTEN_ROOT, 0x84533F51, LEND_READING, o->position))
 CALL(joints_read, rig_joints_read(LEND(SYS), LEND(GFX), RIG_WRITTEN_ROOT, LEND(ROTATION), LEND(TRANSLATION), o->joint_fields))
-CALL(joints_write, rig_joints_write(LEND(ROTATION), 1, LEND(TRANSLATION), 1, LEND(OUT), o->count))
+CALL(joints_write, rig_joints_write(LEND(LIMIT), 1, LEND(TRANSLATION), 1, LEND(OUT), o->count))
+CALL(wide_joints_write, rig_joints_write(LEND(ROTATION), 1, LEND(TRANSLATION), 1, LEND(OUT), o->count))
 CALL(no_joints_write, rig_joints_write(LEND(ROTATION), 0, LEND(TRANSLATION), 0, LEND(OUT), o->count))
+CALL(rotation_limit_write, rig_rotation_limit_write(o->limit, LEND(OUT)))
+CALL(translation_limit_write, rig_translation_limit_write(o->limit, LEND(OUT)))
 
 static const struct {
     const char *name;
@@ -89,7 +95,10 @@ static const struct {
     {"rig_search", call_search},
     {"rig_joints_read", call_joints_read},
     {"rig_joints_write", call_joints_write},
+    {"rig_joints_write of a wide id", call_wide_joints_write},
     {"rig_joints_write of no limits", call_no_joints_write},
+    {"rig_rotation_limit_write", call_rotation_limit_write},
+    {"rig_translation_limit_write", call_translation_limit_write},
 };
 
 enum { CALLS = sizeof calls / sizeof *calls };
@@ -148,8 +157,16 @@ static void each_pointer(const struct slice lent[SLICES], const struct lone *o, 
 
 #define OF(table) {(table).at, (table).len}
 
+/* a limit of id 0; a dirty row has an id that a rotation limit's record cannot hold */
+static struct words lend_limit(void)
+{
+    struct words limit = lend_words("a limit", RIG_ROTATION_WORDS);
+    memset(limit.at, 0, limit.len * sizeof *limit.at);
+    return limit;
+}
+
 /* the section with its rows, and tables to read it into and to derive from n bones */
-static void lend_all(const struct desk *k, struct words rows, size_t n, const char *which)
+static void lend_all(const struct desk *k, struct words rows, struct words limit, size_t n, const char *which)
 {
     struct bytes out = lend_bytes("out", k->s.sys.len + MORE);
     struct longs numbers = lend_longs("numbers", RIG_CURSOR_NUMBERS);
@@ -178,8 +195,9 @@ static void lend_all(const struct desk *k, struct words rows, size_t n, const ch
         [NUMBERS] = OF(numbers),
         [ROTATION] = OF(rotation),
         [TRANSLATION] = OF(translation),
+        [LIMIT] = OF(limit),
     };
-    const struct lone o = {n, k->fields.at, k->count.at, k->position.at, joint_fields.at};
+    const struct lone o = {n, k->fields.at, k->count.at, k->position.at, joint_fields.at, limit.at};
     each_pointer(lent, &o, which);
 }
 
@@ -189,8 +207,9 @@ static void of_the_horse(const char *path)
     enum { N = 13 };
     struct desk first = lend_desk(load(path), N);
     expect_number(read_skeleton(&first, RIG_WRITTEN_ROOT), RIG_OK, "rig_read of the horse");
+    struct words limit = lend_limit();
     struct desk k = lend_desk(first.s, N);
-    lend_all(&k, first.r.bones, N, "the horse");
+    lend_all(&k, first.r.bones, limit, N, "the horse");
     give_back();
 }
 
@@ -198,8 +217,8 @@ static void of_the_horse(const char *path)
  * accepted. */
 static void of_no_bones(void)
 {
+    struct words none = {NULL, 0}, limit = lend_limit();
     struct desk k = lend_desk(lend_section(0), 0);
-    struct words none = {NULL, 0};
     struct shorts no_shorts = {NULL, 0};
     struct bytes out = lend_bytes("out", RIG_SECTION_BYTES(0, 0, 0)), no_bytes = {NULL, 0};
     k.s = (struct section){no_bytes, no_bytes};
@@ -216,7 +235,7 @@ static void of_no_bones(void)
     expect_number(check_skeleton(&nulls, RIG_WRITTEN_ROOT), RIG_OK, "rig_check of no bones and null");
     expect_number(search_name(&nulls, "head"), RIG_NONE, "rig_search of no bones and null");
     expect_number(look_up(&nulls, 0), RIG_NONE, "rig_lookup of no bones and null");
-    lend_all(&r, none, 0, "no bones");
+    lend_all(&r, none, limit, 0, "no bones");
     give_back();
 }
 

@@ -1,7 +1,7 @@
 // The header in C++: each of its macros, and the function that it defines itself. compare/c/run compiles it, and does not link it.
 #include "rig.h"
 
-static_assert(RIG_ABI >= 1, "the number of the exports");
+static_assert(RIG_ABI >= 2, "the number of the exports");
 static_assert(RIG_SYSTEM_BASE == 0x50000000u && RIG_GRAPHICS_BASE == 0x60000000u && RIG_WRITTEN_ROOT == RIG_SYSTEM_BASE, "bases");
 static_assert(RIG_LOWER(0x12345678u) == 0x5678 && RIG_UPPER(0x12345678u) == 0x1234, "halves");
 static_assert(RIG_PAIR(-1, 0x1234) == 0x1234FFFFu && RIG_LOWER(-2) == 0xFFFE, "a pair");
@@ -10,6 +10,9 @@ static_assert(RIG_CHILDREN_LENT(3) == 32 && RIG_PENDING_LENT(3) == 32 && RIG_POO
 static_assert(RIG_ENTRIES_LENT(1) == 0 && RIG_ENTRIES_LENT(2) == 6 && RIG_BUCKETS_LENT(1) == 0, "chains");
 static_assert(RIG_FILLED(0) == 0 && RIG_FILLED(1) == 16 && RIG_FILLED(16) == 16, "what is filled up");
 static_assert(RIG_SECTION_BYTES(1, 0, 0) == 352 && RIG_SECTION_MOST == 32243232 && RIG_JOINTS_BYTES(1, 1) == 320, "sections");
+static_assert(RIG_LIMIT_OTHER + RIG_ROTATION_OTHERS == RIG_ROTATION_SECOND && RIG_ROTATION_WORDS == RIG_ROTATION_SECOND + 1, "rotation");
+static_assert(RIG_LIMIT_OTHER + RIG_TRANSLATION_OTHERS == RIG_TRANSLATION_WORDS, "translation");
+static_assert(RIG_ROTATION_BYTES == 4 * RIG_ROTATION_SECOND && RIG_TRANSLATION_BYTES == 4 * RIG_TRANSLATION_WORDS, "records");
 static_assert(RIG_AS(uint16_t, 65537) == 1, "a cast");
 
 // with numbers that only the run knows, of a size and of an int

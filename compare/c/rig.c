@@ -22,6 +22,7 @@ int main(int argc, char **argv)
     bucket_counts();
     hashes();
     matrices();
+    limits();
     joints();
     whole_horse(argv[1]);
     cut_horse(argv[2]);

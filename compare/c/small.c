@@ -97,7 +97,8 @@ void status_texts(void)
     static const uint32_t statuses[] = {
         RIG_OK, RIG_TABLE_TOO_SHORT, RIG_BUFFER_TOO_SHORT, RIG_TOO_MANY_BONES, RIG_TOO_MANY_CHILDREN, RIG_BAD_NAME,
         RIG_TOO_MANY_LIMITS, RIG_BAD_ADDRESS, RIG_PAST_THE_END, RIG_OTHER_KIND, RIG_BONES_POINTER, RIG_CHAIN_TOO_LONG,
-        RIG_CHAINS_DIFFER, RIG_PARENTS_DIFFER, RIG_CHILDREN_DIFFER, RIG_INVERSE_DIFFER, RIG_LOCAL_DIFFER, RIG_NONE,
+        RIG_CHAINS_DIFFER, RIG_PARENTS_DIFFER, RIG_CHILDREN_DIFFER, RIG_INVERSE_DIFFER, RIG_LOCAL_DIFFER, RIG_BAD_LIMIT_ID,
+        RIG_NONE,
     };
     const char *none = rig_status_text(UINT32_MAX);
     bool known[RIG_NONE + 1] = {false};
@@ -173,73 +174,77 @@ void matrices(void)
 /* how many limits, and more words behind them */
 enum { ROTATIONS = 2, TRANSLATIONS = 3, MORE = 5 };
 
-static struct words lend_fresh(void)
-{
-    const uint32_t o = 0x3F800000, p = 0x40490FDB, m = 0xC0490FDB; /* 1, pi, -pi */
-    const uint32_t slots[RIG_ROTATION_SLOTS] = {0, 0, 0, 1, 3, 0, 0, 0, 0, 0, 0, o, 0, 0, 0, 0, o, 0, 0, 0, m, p, o, 0,
-                                                0, 0, 0, 0, 0, p, m, p, p, m, p, p, m, p, p, m, p, p, m, p, p, m, p, 256};
-    struct words fresh = lend_words("a fresh limit", RIG_ROTATION_SLOTS);
-    rig_fresh_rotation_limit(fresh.at);
-    expect(same(fresh.at, slots, sizeof slots), "the slots of rig_fresh_rotation_limit");
-    return fresh;
-}
-
-/* Gives a row its named fields, each word another, and puts them over their slots too, so that it reads back as it is. */
-static void name_fields(uint32_t *row, size_t least, size_t greatest)
+/* Gives a row its id, and its bounds, each word another. */
+static void name_fields(uint32_t *row, uint32_t id)
 {
     static uint32_t next = 0x10001;
-    uint32_t *slots = row + RIG_LIMIT_SLOTS;
-    for (size_t i = RIG_LIMIT_ID; i < RIG_LIMIT_SLOTS; i++)
+    row[RIG_LIMIT_ID] = id;
+    for (size_t i = RIG_LIMIT_LEAST; i < RIG_LIMIT_OTHER; i++)
         row[i] = next++;
-    slots[2] = row[RIG_LIMIT_ID];
-    memcpy(slots + least, row + RIG_LIMIT_LEAST, 3 * sizeof *row);
-    memcpy(slots + greatest, row + RIG_LIMIT_GREATEST, 3 * sizeof *row);
 }
 
+/* the greatest ids, falling */
 static struct words lend_rotations(void)
 {
-    struct words fresh = lend_fresh(), rows = lend_words("rotation limits", ROTATIONS * RIG_ROTATION_WORDS);
+    struct words rows = lend_words("rotation limits", ROTATIONS * RIG_ROTATION_WORDS);
     for (size_t i = 0; i < ROTATIONS; i++) {
         uint32_t *row = rows.at + RIG_ROTATION_WORDS * i;
-        memcpy(row + RIG_LIMIT_SLOTS, fresh.at, fresh.len * sizeof *fresh.at);
-        name_fields(row, 23, 26);
+        rig_fresh_rotation_limit(row);
+        name_fields(row, (uint32_t)(65535 - i));
+        row[RIG_ROTATION_SECOND] = (uint32_t)(0xABCD + i);
     }
     return rows;
+}
+
+/* the same with an id in the last row that a record cannot hold */
+static struct words lend_wide(struct words rotations)
+{
+    struct words wide = lend_words("rotation limits with a wide id", rotations.len);
+    memcpy(wide.at, rotations.at, rotations.len * sizeof *rotations.at);
+    wide.at[RIG_ROTATION_WORDS * (ROTATIONS - 1) + RIG_LIMIT_ID] = 65536;
+    return wide;
 }
 
 static struct words lend_translations(void)
 {
     struct words rows = lend_words("translation limits", TRANSLATIONS * RIG_TRANSLATION_WORDS);
     for (size_t i = 0; i < TRANSLATIONS; i++)
-        name_fields(rows.at + RIG_TRANSLATION_WORDS * i, 8, 12);
+        name_fields(rows.at + RIG_TRANSLATION_WORDS * i, (uint32_t)(UINT32_MAX - i));
     return rows;
 }
 
 /* Writes the limits, after refusals that leave the buffer as it was. */
-static struct bytes write_limits(struct words rotations, struct words translations)
+static struct bytes write_limits(struct words rotations, struct words wide, struct words translations)
 {
     const size_t bytes = RIG_JOINTS_BYTES(ROTATIONS, TRANSLATIONS);
     const struct {
+        struct words rotations;
         size_t r, t, room;
         uint32_t status;
     } calls[] = {
-        {RIG_MOST + 1, 0, 0, RIG_TOO_MANY_LIMITS},
-        {RIG_MOST, 0, 0, RIG_TABLE_TOO_SHORT},
-        {ROTATIONS + 1, RIG_MOST + 1, 0, RIG_TOO_MANY_LIMITS},
-        {ROTATIONS + 1, 0, 0, RIG_TABLE_TOO_SHORT},
-        {0, TRANSLATIONS + 1, 0, RIG_TABLE_TOO_SHORT},
-        {ROTATIONS, TRANSLATIONS, bytes - 1, RIG_BUFFER_TOO_SHORT},
-        {ROTATIONS, TRANSLATIONS, bytes + MORE, RIG_OK},
+        {rotations, RIG_MOST + 1, 0, 0, RIG_TOO_MANY_LIMITS},
+        {rotations, RIG_MOST, 0, 0, RIG_TABLE_TOO_SHORT},
+        {rotations, ROTATIONS + 1, RIG_MOST + 1, 0, RIG_TOO_MANY_LIMITS},
+        {rotations, ROTATIONS + 1, 0, 0, RIG_TABLE_TOO_SHORT},
+        {rotations, 0, TRANSLATIONS + 1, 0, RIG_TABLE_TOO_SHORT},
+        {wide, ROTATIONS, RIG_MOST + 1, bytes, RIG_TOO_MANY_LIMITS},
+        {wide, ROTATIONS + 1, 0, bytes, RIG_TABLE_TOO_SHORT},
+        {wide, ROTATIONS, TRANSLATIONS + 1, bytes, RIG_TABLE_TOO_SHORT},
+        {wide, ROTATIONS, TRANSLATIONS, bytes + MORE, RIG_BAD_LIMIT_ID},
+        {wide, ROTATIONS, TRANSLATIONS, 0, RIG_BAD_LIMIT_ID},
+        {wide, ROTATIONS - 1, TRANSLATIONS, 0, RIG_BUFFER_TOO_SHORT},
+        {rotations, ROTATIONS, TRANSLATIONS, bytes - 1, RIG_BUFFER_TOO_SHORT},
+        {rotations, ROTATIONS, TRANSLATIONS, bytes + MORE, RIG_OK},
     };
     struct bytes out = lend_bytes("out", bytes + MORE);
     struct sizes count = lend_sizes("count", 1);
     for (size_t i = 0; i < sizeof calls / sizeof *calls; i++) {
         size_t r = calls[i].r, t = calls[i].t, written = calls[i].status == RIG_OK ? bytes : 0;
         soil();
-        uint32_t status = rig_joints_write(LENT(rotations), r, LENT(translations), t, out.at, calls[i].room, count.at);
-        expect_number(status, calls[i].status, "rig_joints_write of %zu and %zu limits", r, t);
-        expect_number(*count.at, written, "the bytes of %zu and %zu limits", r, t);
-        expect(all(out.at + written, DIRT, out.len - written), "out behind %zu and %zu limits", r, t);
+        uint32_t status = rig_joints_write(LENT(calls[i].rotations), r, LENT(translations), t, out.at, calls[i].room, count.at);
+        expect_number(status, calls[i].status, "rig_joints_write %zu of %zu and %zu limits", i, r, t);
+        expect_number(*count.at, written, "the bytes of writing %zu of %zu and %zu limits", i, r, t);
+        expect(all(out.at + written, DIRT, out.len - written), "out behind writing %zu of %zu and %zu limits", i, r, t);
     }
     return out;
 }
@@ -308,9 +313,9 @@ static void empty_limits_are_read(struct joints j, struct bytes written)
 
 void joints(void)
 {
-    struct words rotations = lend_rotations(), translations = lend_translations();
+    struct words rotations = lend_rotations(), wide = lend_wide(rotations), translations = lend_translations();
     keep();
-    struct bytes sys = write_limits(rotations, translations);
+    struct bytes sys = write_limits(rotations, wide, translations);
     keep();
     struct joints j = {
         .sys = sys,

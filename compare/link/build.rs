@@ -10,7 +10,7 @@ const GROUPS: [(&str, &str); 8] = [
     ("rig_derive", "rig_build_indices"),
     ("rig_hash", "rig_rage_joaat"),
     ("rig_setters", "rig_set_column4"),
-    ("rig_joints", "rig_joints_read"),
+    ("rig_joints", "rig_rotation_limit_read"),
     ("rig_skeletons", "rig_read"),
     ("rig_checks", "rig_check"),
 ];

@@ -305,12 +305,40 @@ pub(crate) fn joints_write(rotation: &[u32], r: usize, translation: &[u32], t: u
     }
 }
 
-pub(crate) fn fresh_rotation_limit() -> [u32; 48] {
+pub(crate) fn fresh_rotation_limit() -> [u32; 49] {
     hold_number();
-    let mut slots = [0; 48];
+    let mut row = [0; 49];
     // SAFETY: an array borrowed by `&mut` for this call.
-    unsafe { rig_fresh_rotation_limit(&mut slots) };
-    slots
+    unsafe { rig_fresh_rotation_limit(&mut row) };
+    row
+}
+
+pub(crate) fn rotation_limit_read(record: &[u8; 192]) -> [u32; 49] {
+    hold_number();
+    let mut row = [0; 49];
+    // SAFETY: arrays borrowed for this call, the one that may be changed by `&mut`.
+    unsafe { rig_rotation_limit_read(record, &mut row) };
+    row
+}
+
+pub(crate) fn rotation_limit_write(row: &[u32; 49], out: &mut [u8]) -> u32 {
+    hold_number();
+    // SAFETY: an array borrowed for this call, and the address and length of a slice borrowed by `&mut`.
+    unsafe { rig_rotation_limit_write(row, out.as_mut_ptr(), out.len()) }
+}
+
+pub(crate) fn translation_limit_read(record: &[u8; 64]) -> [u32; 16] {
+    hold_number();
+    let mut row = [0; 16];
+    // SAFETY: arrays borrowed for this call, the one that may be changed by `&mut`.
+    unsafe { rig_translation_limit_read(record, &mut row) };
+    row
+}
+
+pub(crate) fn translation_limit_write(row: &[u32; 16], out: &mut [u8]) -> u32 {
+    hold_number();
+    // SAFETY: an array borrowed for this call, and the address and length of a slice borrowed by `&mut`.
+    unsafe { rig_translation_limit_write(row, out.as_mut_ptr(), out.len()) }
 }
 
 #[cfg(test)]

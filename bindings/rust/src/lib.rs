@@ -15,7 +15,7 @@
 //! - [`check`] a section; [`lookup`] a tag as the game does; [`find_by_name`] a bone.
 //! - [`Skeleton::read`] it into [`Bone`]s and lists, and [`write()`] bones as a section.
 //! - Derive single lists: [`build_bone_tags`], [`build_indices`], [`build_transformations`].
-//! - [`Joints`] read and write rotation and translation limits.
+//! - [`Joints`] read and write rotation and translation limits; a [`RotationLimit`] or a [`TranslationLimit`] its own record.
 //!
 //! A section is its two halves, system and graphics, of which one may be empty, and the address of the record in question, the
 //! root. Addresses in the halves start at [`SYSTEM_BASE`] and [`GRAPHICS_BASE`].

@@ -36,7 +36,7 @@ refusals! {
     TooManyChildren = 3, "the child list of these bones would have more than 65,535 entries: too many bones have a parent";
     /// Writing only.
     BadName = 4, "a bone's name is longer than 255 bytes, holds a zero byte or lies outside the lent name bytes";
-    /// The output buffer is too short. No call of this crate gives it: the buffer is as long as any section of the bones.
+    /// The output buffer is too short. No call of this crate gives it: the buffer is as long as what is written may be.
     BufferTooShort = 5, "the buffer to write into is too short";
     /// Writing joints only.
     TooManyLimits = 6, "there are more than 65,535 rotation limits or translation limits";
@@ -60,6 +60,8 @@ refusals! {
     Inverse = 24, "the inverse matrices differ from those that follow from the bones' rotations, translations and parents";
     /// The check only.
     Local = 25, "the local matrices differ from those that follow from each bone's rotation, translation and scale";
+    /// Writing joints or a rotation limit only.
+    BadLimitId = 35, "a rotation limit's bone id is above 65,535, the greatest that its record holds: give the limit an id from 0 to 65,535";
 }
 
 impl Refusal {
@@ -108,9 +110,18 @@ pub(crate) fn done(status: u32) -> Result<bool, Refusal> {
     }
 }
 
+/// The status of a call that has nothing to refuse in the room that it is lent.
+///
+/// # Panics
+///
+/// Where the library breaks its contract: by any other than 0.
+pub(crate) fn not_refused(status: u32) {
+    assert!(status == 0, "librig.a broke its contract: status {status}, with nothing to refuse");
+}
+
 #[cfg(test)]
 mod tests {
-    use super::{done, Refusal};
+    use super::{done, not_refused, Refusal};
 
     #[test]
     fn numbers_rise() {
@@ -122,6 +133,7 @@ mod tests {
         assert_eq!(done(0), Ok(true));
         assert_eq!(done(100), Ok(false));
         assert_eq!(done(21), Err(Refusal::Chains));
+        not_refused(0);
     }
 
     #[test]
@@ -134,5 +146,11 @@ mod tests {
     #[should_panic(expected = "broke its contract: status 1,")]
     fn too_short_is_no_answer() {
         let _ = done(1);
+    }
+
+    #[test]
+    #[should_panic(expected = "broke its contract: status 5, with nothing to refuse")]
+    fn a_refusal_of_nothing() {
+        not_refused(5);
     }
 }

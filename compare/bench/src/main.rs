@@ -32,6 +32,7 @@ are known, looks at the most rows; each is made for the pool that it is read wit
 
 A check is timed with a pool half full, against the Rust's reading and its three derivations from the bones read, without any
 comparison. A lookup finds the tag of a bone in the section's bytes; the Rust's side is `get` of a `HashMap<u16, u32>` made before.
+Limits in a call each are so many calls of ours, and on the Rust's side `Pod::read` into a list, or `Pod::write` with one `Writer`.
 
 Left out: the Rust on bones of one index (memory with the square of the count), and its indices and matrices of a chain of 65,535
 bones. Parents are signed: that chain is one of 32,769 bones, and then roots.

@@ -7,8 +7,8 @@ use oracle::{Bone, Chains, RotationLimit, TranslationLimit};
 pub const BONE: usize = 21;
 pub const ENTRY: usize = 3;
 pub const MATRIX: usize = 16;
-pub const ROTATION: usize = 55;
-pub const TRANSLATION: usize = 23;
+pub const ROTATION: usize = 49;
+pub const TRANSLATION: usize = 16;
 /// Of 64 bits.
 pub const POOL: usize = 4;
 
@@ -92,21 +92,43 @@ pub fn chains(chains: &Chains, n: usize) -> (Vec<u32>, Vec<u32>) {
     (buckets, entries)
 }
 
-/// The row of a rotation limit: id and second number, least, greatest, the 48 slots.
-pub fn rotation(l: &RotationLimit) -> Vec<u32> {
-    [&[pair(l.id, l.second)][..], &l.min, &l.max, &l.other].concat()
+/// The slots of a rotation limit that no field names, in their order.
+pub fn rotation_others() -> impl Iterator<Item = usize> {
+    (0..48).filter(|slot| !matches!(slot, 2 | 23..=28))
 }
 
-pub fn rotation_limit(row: &[u32]) -> RotationLimit {
-    let (id, second) = halves(row[0]);
-    RotationLimit { id, second, min: taken(row, 1), max: taken(row, 4), other: taken(row, 7) }
+/// The same of a translation limit.
+pub fn translation_others() -> impl Iterator<Item = usize> {
+    (0..16).filter(|slot| !matches!(slot, 2 | 8..=10 | 12..=14))
 }
 
-/// The row of a translation limit: id, least, greatest, the 16 slots.
-pub fn translation(l: &TranslationLimit) -> Vec<u32> {
-    [&[l.id][..], &l.min, &l.max, &l.other].concat()
+/// The words of a row from word 7 on in the slots that no field names; the others, which a row does not hold so, are 0.
+fn slots<const N: usize>(row: &[u32], others: impl Iterator<Item = usize>) -> [u32; N] {
+    let mut slots = [0; N];
+    others.zip(&row[7..]).for_each(|(slot, &word)| slots[slot] = word);
+    slots
+}
+
+/// The row of a rotation limit: id, least, greatest, the slots that no field names, the second number.
+pub fn rotation(l: &RotationLimit) -> [u32; ROTATION] {
+    let others: Vec<u32> = rotation_others().map(|slot| l.other[slot]).collect();
+    let words = [&[l.id as u32][..], &l.min, &l.max, &others, &[l.second as u32]].concat();
+    words.try_into().expect("the words of a row")
+}
+
+/// The limit of a row; `None` where its record has no room for the id. The upper half of the last word is not looked at.
+pub fn rotation_limit(row: &[u32]) -> Option<RotationLimit> {
+    let (id, second) = (row[0].try_into().ok()?, row[ROTATION - 1] as u16);
+    Some(RotationLimit { id, second, min: taken(row, 1), max: taken(row, 4), other: slots(row, rotation_others()) })
+}
+
+/// The row of a translation limit: id, least, greatest, the slots that no field names.
+pub fn translation(l: &TranslationLimit) -> [u32; TRANSLATION] {
+    let others: Vec<u32> = translation_others().map(|slot| l.other[slot]).collect();
+    let words = [&[l.id][..], &l.min, &l.max, &others].concat();
+    words.try_into().expect("the words of a row")
 }
 
 pub fn translation_limit(row: &[u32]) -> TranslationLimit {
-    TranslationLimit { id: row[0], min: taken(row, 1), max: taken(row, 4), other: taken(row, 7) }
+    TranslationLimit { id: row[0], min: taken(row, 1), max: taken(row, 4), other: slots(row, translation_others()) }
 }

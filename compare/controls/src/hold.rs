@@ -67,7 +67,8 @@ fn section(crates: &Path) -> Option<String> {
     differs.map(|i| format!("{file}: word {i} must be {:?}, and is {:?}", laid.get(i), listed.get(i)))
 }
 
-/// The fields of the file's record, `pub NAME : TERM`, and its definitions, `NAME = TERM`, each with the lines that continue it.
+/// The fields of the file's record, `pub NAME : TERM`, and its definitions, `NAME = TERM`, each with the lines that continue it. The
+/// name of a function has its parameters behind it.
 fn spec(text: &str) -> Spec {
     let mut spec = Spec::default();
     let mut last: Option<&mut String> = None;
@@ -79,7 +80,7 @@ fn spec(text: &str) -> Spec {
             (in_record, last) = (true, None);
         } else if let Some((name, term)) = field(line).filter(|_| in_record) {
             last = Some(spec.fields.entry(name.into()).or_insert(term.into()));
-        } else if let Some((name, term)) = line.split_once(" =").filter(|(name, _)| !name.contains(' ')) {
+        } else if let Some((name, term)) = line.split_once(" =").filter(|(name, _)| !name.starts_with(' ')) {
             in_record = false;
             last = Some(spec.definitions.entry(name.into()).or_insert(term.into()));
         } else if line.starts_with(' ') {

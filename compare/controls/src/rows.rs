@@ -1,6 +1,6 @@
 //! `RowsControls`: single fields, and rows of lent tables by docs/FORMAT.md's "Rows of the lent tables".
 
-use crate::joints::limits;
+use crate::joints::{limits, rotation_of, translation_of};
 use crate::sheet::Sheet;
 use crate::term::{applied, list, number, numbers, row};
 use cases::rows::{bone, placed_bones, rotation, rotation_limit, translation, translation_limit, Place, BONE};
@@ -15,10 +15,20 @@ pub fn sheet() -> Sheet {
     let (r, t) = limits();
     s.text("rotationLaid", "rotationWords rotation1", row(&rotation(&r)));
     s.text("translationLaid", "translationWords translation1", row(&translation(&t)));
-    assert_eq!(rotation_limit(&rotation(&r)), r);
-    s.text("rotationRowBack", "rotationRow (rotationWords rotation1)", "rotation1");
-    assert_eq!(translation_limit(&translation(&t)), t);
-    s.text("translationRowBack", "translationRow (translationWords translation1)", "translation1");
+    let mut upper = rotation(&r);
+    upper[48] |= 0xFFFF_0000;
+    assert_eq!(rotation_limit(&upper), Some(r), "a row of this limit");
+    let edited = format!("edited ((48, {}) ∷ []) (rotationWords rotation1)", number(upper[48]));
+    s.text("rotationRowBack", format!("rotationRow ({edited})"), "rotation1");
+    // the published limit has no such id
+    let any = u32::MAX;
+    assert_eq!((rotation_of(any)[0], rotation_limit(&rotation_of(any))), (any, None));
+    let wide = format!("rotationOf {}", number(any));
+    s.text("wideRowBack", format!("rotationRow (rotationWords ({wide}))"), wide);
+    let back = translation_limit(&translation_of(any));
+    assert_eq!((back.id, &translation(&back)[..]), (any, &translation_of(any)[..]));
+    let wide = format!("translationOf {}", number(any));
+    s.text("translationRowBack", format!("translationRow (translationWords ({wide}))"), wide);
     s
 }
 

@@ -103,7 +103,9 @@ fn ours(o: &Options, failures: &Path) -> Result<(), String> {
         let tally = joints::run(l, failures, seed, extent, threads)?;
         shown(o, tally, |tally| {
             tally.require("joints read", &["done", "none", "1", "10", "11"])?;
-            tally.require("joints write", &["done", "1", "5", "6"])
+            tally.require("joints write", &["done", "1", "5", "6", "35"])?;
+            tally.require("rotation limit write", &["done", "5", "35"])?;
+            tally.require("translation limit write", &["done", "5"])
         })
     })?;
     compared(o, "skeletons", "", link::skeletons(), |l| {

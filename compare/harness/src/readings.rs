@@ -57,6 +57,7 @@ readings! {
     }
     writing {
         names_part, empty_name_is_368_bytes, largest_section, child_entries_65528_and_65536, rotation_limit_named_slots_win,
+        rotation_id_above_65535_is_35, six_one_thirty_five_five, upper_half_of_the_second_number,
     }
     section {
         chains_are_those_of_the_list_read, bones_read_are_counted, empty_input_is_11, names_are_mended,

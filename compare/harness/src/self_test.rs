@@ -5,6 +5,7 @@ mod cursor;
 mod derive;
 mod fields;
 mod joints;
+mod limit;
 mod program;
 mod setters;
 mod skeleton_read;
@@ -92,7 +93,7 @@ fn setting(folder: &Path) -> Result<usize, String> {
 
 fn limits(folder: &Path, threads: u64) -> Result<usize, String> {
     none(crate::joints::run(&joints::Faulty(None), folder, 1, Test, threads))?;
-    let found = each(&joints::FAULTS, threads, |&fault| {
+    let found = each(&joints::faults(), threads, |&fault| {
         stored(crate::joints::run(&joints::Faulty(Some(fault)), folder, 1, Test, 1), &format!("{fault:?}"))
     })?;
     Ok(found.len())

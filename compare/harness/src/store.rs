@@ -4,6 +4,7 @@
 mod case;
 mod limits;
 mod names;
+mod records;
 mod rigs;
 mod sections;
 mod wrong;
@@ -38,7 +39,7 @@ pub fn check(file: &Path) -> Result<String, String> {
 }
 
 fn sample() -> Result<Vec<Stored>, String> {
-    let good = [sections::cases()?, rigs::cases(), limits::cases()?, names::cases()].concat();
+    let good = [sections::cases()?, rigs::cases(), limits::cases()?, names::cases(), records::cases()].concat();
     let wrong = wrong::cases(&good)?;
     Ok([good, wrong].concat())
 }

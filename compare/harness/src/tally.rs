@@ -9,7 +9,12 @@ pub struct Tally(BTreeMap<(&'static str, &'static str), u64>);
 
 impl Tally {
     pub fn count(&mut self, call: &'static str, answer: &'static str) {
-        *self.0.entry((call, answer)).or_default() += 1;
+        self.add(call, answer, 1);
+    }
+
+    /// So many of an answer.
+    pub fn add(&mut self, call: &'static str, answer: &'static str, n: u64) {
+        *self.0.entry((call, answer)).or_default() += n;
     }
 
     pub fn merge(&mut self, other: &Tally) {
@@ -77,6 +82,7 @@ pub fn refusal(number: u8) -> &'static str {
         23 => "23",
         24 => "24",
         25 => "25",
+        35 => "35",
         _ => panic!("no refusal has the number {number}"),
     }
 }

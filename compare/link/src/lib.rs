@@ -60,7 +60,14 @@ pub trait Setters: Sync {
 /// The kind word, the two stored counts, and for each list whether it stands and how many limits it has.
 pub type JointFields = [u32; 7];
 
-/// Joints. A call gives its status; writing counts its bytes, 0 after a refusal.
+/// The rows of the two limits, and their records.
+pub type RotationRow = [u32; 49];
+pub type RotationRecord = [u8; 192];
+pub type TranslationRow = [u32; 16];
+pub type TranslationRecord = [u8; 64];
+
+/// Joints, and one limit at a time. A call gives its status; writing joints counts its bytes, 0 after a refusal. A limit is read
+/// whatever its record holds.
 pub trait Joints: Sync {
     fn joints_read(
         &self,
@@ -72,7 +79,11 @@ pub trait Joints: Sync {
         fields: &mut JointFields,
     ) -> u32;
     fn joints_write(&self, rotation: &[u32], r: usize, translation: &[u32], t: usize, out: &mut [u8], count: &mut usize) -> u32;
-    fn fresh_rotation_limit(&self, out: &mut [u32; 48]);
+    fn fresh_rotation_limit(&self, row: &mut RotationRow);
+    fn rotation_limit_read(&self, record: &RotationRecord, row: &mut RotationRow);
+    fn rotation_limit_write(&self, row: &RotationRow, out: &mut [u8]) -> u32;
+    fn translation_limit_read(&self, record: &TranslationRecord, row: &mut TranslationRow);
+    fn translation_limit_write(&self, row: &TranslationRow, out: &mut [u8]) -> u32;
 }
 
 /// The kind word, the four free words, the stored counts of buckets, bones and child entries; then of buckets, bones,

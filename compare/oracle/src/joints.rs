@@ -5,7 +5,7 @@ use crate::refusal::number;
 use crate::write::{Placed, Written};
 use rage_formats::blocks::base::StructArray;
 use rage_formats::blocks::skeleton::{self, JointRotationLimit, JointTranslationLimit};
-use rage_formats::blocks::{ydr, Graph};
+use rage_formats::blocks::{ydr, Graph, Pod, Writer};
 
 /// A rotation limit; `other` has a word for each of its 48 slots.
 #[derive(Clone, Copy, Debug, PartialEq, Eq)]
@@ -88,11 +88,37 @@ pub fn fresh_rotation_limit() -> RotationLimit {
     plain_rotation(&JointRotationLimit::default())
 }
 
+/// `JointRotationLimit::read` of a record.
+pub fn rotation_limit_read(record: &[u8]) -> RotationLimit {
+    plain_rotation(&JointRotationLimit::read(record))
+}
+
+/// `JointRotationLimit::write`: the record.
+pub fn rotation_limit_write(l: &RotationLimit) -> Vec<u8> {
+    record(&published_rotation(l))
+}
+
+/// `JointTranslationLimit::read` of a record.
+pub fn translation_limit_read(record: &[u8]) -> TranslationLimit {
+    plain_translation(&JointTranslationLimit::read(record))
+}
+
+/// `JointTranslationLimit::write`: the record.
+pub fn translation_limit_write(l: &TranslationLimit) -> Vec<u8> {
+    record(&published_translation(l))
+}
+
+fn record(limit: &impl Pod) -> Vec<u8> {
+    let mut w = Writer::new(0, 0);
+    limit.write(&mut w);
+    w.into_inner()
+}
+
 fn plain_rotation(l: &JointRotationLimit) -> RotationLimit {
     RotationLimit { id: l.bone_id, second: l.unknown_a, min: vec3_words(l.min), max: vec3_words(l.max), other: l.other }
 }
 
-fn published_rotation(l: &RotationLimit) -> JointRotationLimit {
+pub(crate) fn published_rotation(l: &RotationLimit) -> JointRotationLimit {
     JointRotationLimit { bone_id: l.id, unknown_a: l.second, min: vec3(l.min), max: vec3(l.max), other: l.other }
 }
 
@@ -100,6 +126,6 @@ fn plain_translation(l: &JointTranslationLimit) -> TranslationLimit {
     TranslationLimit { id: l.bone_id, min: vec3_words(l.min), max: vec3_words(l.max), other: l.other }
 }
 
-fn published_translation(l: &TranslationLimit) -> JointTranslationLimit {
+pub(crate) fn published_translation(l: &TranslationLimit) -> JointTranslationLimit {
     JointTranslationLimit { bone_id: l.id, min: vec3(l.min), max: vec3(l.max), other: l.other }
 }

@@ -27,10 +27,13 @@ pub use derive::{
     build_bone_tags, build_indices, build_transformations, num_hash_buckets, settle_nan, Chains, COLUMN4, SETTLED_NAN,
 };
 pub use fields::{put_u16, put_u32, put_u64, u16_at, u32_at, u64_at};
-pub use joints::{fresh_rotation_limit, joints_read, joints_write, Joints, JointsAnswer, RotationLimit, TranslationLimit};
+pub use joints::{
+    fresh_rotation_limit, joints_read, joints_write, rotation_limit_read, rotation_limit_write, translation_limit_read,
+    translation_limit_write, Joints, JointsAnswer, RotationLimit, TranslationLimit,
+};
 pub use lookup::{lookup, Found};
 pub use names::NameBytes;
-pub use prepared::{DerivedRig, PreparedBlocks, PreparedBones, PreparedRig, PreparedSection};
+pub use prepared::{DerivedRig, PreparedBlocks, PreparedBones, PreparedLimits, PreparedRig, PreparedSection};
 pub use prepared_check::{derive_read, Derived};
 pub use rage_formats::hash::rage_joaat;
 pub use rage_formats::math::{Mat4, Vec3, Vec4};

@@ -1,10 +1,10 @@
 //! Published values made ready beforehand, so that a published call can be timed alone.
 
 use crate::bone::{published, Bone};
-use crate::joints::{placed_limits, RotationLimit, TranslationLimit};
+use crate::joints::{placed_limits, published_rotation, published_translation, RotationLimit, TranslationLimit};
 use crate::write::{named_bones, Placed};
-use rage_formats::blocks::skeleton::{self, Joints, Skeleton};
-use rage_formats::blocks::{ydr, BlockId, Graph, Reader};
+use rage_formats::blocks::skeleton::{self, JointRotationLimit, JointTranslationLimit, Joints, Skeleton};
+use rage_formats::blocks::{ydr, BlockId, Graph, Pod, Reader, Writer};
 use rage_formats::math::Mat4;
 
 /// Bones as the published calls take them.
@@ -116,5 +116,48 @@ impl PreparedBlocks {
     /// The section, written into a buffer of its own.
     pub fn write(&self) -> Vec<u8> {
         self.placed.write(&self.g).section()
+    }
+}
+
+/// Limits as the published `Pod` takes them, and their records.
+pub struct PreparedLimits<L> {
+    limits: Vec<L>,
+    records: Vec<u8>,
+}
+
+impl PreparedLimits<JointRotationLimit> {
+    pub fn of_rotations(limits: &[RotationLimit]) -> Self {
+        Self::new(limits.iter().map(published_rotation).collect())
+    }
+}
+
+impl PreparedLimits<JointTranslationLimit> {
+    pub fn of_translations(limits: &[TranslationLimit]) -> Self {
+        Self::new(limits.iter().map(published_translation).collect())
+    }
+}
+
+impl<L: Pod> PreparedLimits<L> {
+    fn new(limits: Vec<L>) -> Self {
+        let mut prepared = PreparedLimits { limits, records: Vec::new() };
+        prepared.records = prepared.write();
+        prepared
+    }
+
+    /// The records one behind the other.
+    pub fn records(&self) -> &[u8] {
+        &self.records
+    }
+
+    /// Each record by `Pod::read`.
+    pub fn read(&self) -> Vec<L> {
+        self.records.chunks_exact(L::SIZE).map(L::read).collect()
+    }
+
+    /// Each limit by `Pod::write`, into one buffer.
+    pub fn write(&self) -> Vec<u8> {
+        let mut w = Writer::new(0, L::SIZE * self.limits.len());
+        self.limits.iter().for_each(|limit| limit.write(&mut w));
+        w.into_inner()
     }
 }

@@ -30,9 +30,11 @@ use Rattle.format.specs.Check.{Read, sameChains, sameWords, verdict, rea
 use Rattle.format.specs.Search.{search}
 use Rattle.format.specs.Lookup.{unlessFound, follow, lookupIn, lookup}
 use Rattle.format.specs.Write.{goodNames, named, written}
-use Rattle.format.specs.Joints.{RotationLimit, TranslationLimit, jointsLayout, jointsWritten, limits, readJoints}
+use Rattle.format.specs.Joints.{RotationLimit, rotationWritten, TranslationLimit, translationWritten, idsFit, jointsLayout}
+use Rattle.format.specs.Joints.{jointsWritten, limits, readJoints}
 use Rattle.format.specs.CallRefusals.{writingRefusals, readingRefusals, checkRefusals, lookupRefusals}
-use Rattle.format.specs.CallRefusals.{jointsReadRefusals, jointsWrittenRefusals, oneOf, RefusesOnly, CallRefusals}
+use Rattle.format.specs.CallRefusals.{jointsReadRefusals, jointsWrittenRefusals, rotationWrittenRefusals}
+use Rattle.format.specs.CallRefusals.{translationWrittenRefusals, oneOf, RefusesOnly, CallRefusals}
 
 -- ---- steps
 
@@ -374,7 +376,19 @@ unfolding jointsWritten
 joints-written-only size rs ts =
     only-then (only-need 6 (leb (length rs) 65535) tt) λ u.
     only-then (only-need 6 (leb (length ts) 65535) tt) λ u.
+    only-then (only-need 35 (idsFit rs) tt) λ u.
     only-then (only-need 5 (leb (length (jointsLayout rs ts)) size) tt) λ u. only-done _
+
+rotation-written-only : (size : ℕ) (l : RotationLimit) → RefusesOnly rotationWrittenRefusals (rotationWritten size l)
+unfolding rotationWritten
+rotation-written-only size l =
+    only-then (only-need 35 (leb (l .id) 65535) tt) λ u.
+    only-then (only-need 5 (leb 192 size) tt) λ u. only-done _
+
+translation-written-only : (size : ℕ) (l : TranslationLimit) → RefusesOnly translationWrittenRefusals (translationWritten size l)
+unfolding translationWritten
+translation-written-only size l =
+    only-then (only-need 5 (leb 64 size) tt) λ u. only-done _
 
 -- ---- the statement
 
@@ -388,4 +402,6 @@ call-refusals =
       writing = writing-only;
       jointsRead = joints-read-only;
       jointsWritten = joints-written-only;
+      rotationWritten = rotation-written-only;
+      translationWritten = translation-written-only;
     }

@@ -15,5 +15,6 @@ rows-controls =
       rotationLaid = refl;
       translationLaid = refl;
       rotationRowBack = refl;
+      wideRowBack = refl;
       translationRowBack = refl;
     }

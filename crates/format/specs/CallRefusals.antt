@@ -40,12 +40,19 @@ checkRefusals = readingRefusals ++ 21 ∷ 22 ∷ 23 ∷ 24 ∷ 25 ∷ []
 abbrev pub lookupRefusals : List ℕ
 lookupRefusals = 10 ∷ 11 ∷ 14 ∷ []
 
--- joints read, and joints written
+-- joints read
 abbrev pub jointsReadRefusals : List ℕ
 jointsReadRefusals = 1 ∷ 10 ∷ 11 ∷ []
 
+-- joints written, and one record of each kind
 abbrev pub jointsWrittenRefusals : List ℕ
-jointsWrittenRefusals = 1 ∷ 5 ∷ 6 ∷ []
+jointsWrittenRefusals = 1 ∷ 5 ∷ 6 ∷ 35 ∷ []
+
+abbrev pub rotationWrittenRefusals : List ℕ
+rotationWrittenRefusals = 5 ∷ 35 ∷ []
+
+abbrev pub translationWrittenRefusals : List ℕ
+translationWrittenRefusals = 5 ∷ []
 
 -- ---- what the lists are of
 
@@ -70,3 +77,7 @@ pub record CallRefusals : Type 0 where
   pub jointsWritten :
       (size : ℕ) (rs : List Joints.RotationLimit) (ts : List Joints.TranslationLimit) →
       RefusesOnly jointsWrittenRefusals (Joints.jointsWritten size rs ts)
+  pub rotationWritten :
+      (size : ℕ) (l : Joints.RotationLimit) → RefusesOnly rotationWrittenRefusals (Joints.rotationWritten size l)
+  pub translationWritten :
+      (size : ℕ) (l : Joints.TranslationLimit) → RefusesOnly translationWrittenRefusals (Joints.translationWritten size l)

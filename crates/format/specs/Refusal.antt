@@ -1,7 +1,8 @@
 -- The numbers of the refusals (docs/FORMAT.md, "Who can cause a refusal"). Definitions only.
 use Prim.Native.Nat.{ℕ}
 use Rattle.format.specs.declared.Refusal.{Refusal}
-use Rattle.format.specs.declared.Refusal.the-variants.{TableTooShort, TooManyBones, TooManyChildren, BadName, BufferTooShort, TooManyLimits}
+use Rattle.format.specs.declared.Refusal.the-variants.{TableTooShort, TooManyBones, TooManyChildren, BadName, BufferTooShort}
+use Rattle.format.specs.declared.Refusal.the-variants.{TooManyLimits, BadLimitId}
 use Rattle.format.specs.declared.Refusal.the-variants.{BadAddress, PastTheEnd, OtherKind, BonesPointer, ChainTooLong}
 use Rattle.format.specs.declared.Refusal.the-variants.{Chains, Parents, Children, Inverse, Local}
 
@@ -22,3 +23,4 @@ number Parents = 22
 number Children = 23
 number Inverse = 24
 number Local = 25
+number BadLimitId = 35

@@ -12,7 +12,7 @@ use Rattle.format.specs.Rows.{entryWords, boneWords, bonesOf}
 use Rattle.format.specs.Joints.{rotationWords, rotationRow, translationWords, translationRow}
 use Rattle.format.specs.Controls.{edited}
 use Rattle.format.specs.ReadingControls.{placeAt}
-use Rattle.format.specs.JointsControls.{rotation1, translation1}
+use Rattle.format.specs.JointsControls.{rotationOf, rotation1, translationOf, translation1}
 
 -- a bone whose words are all different
 abbrev pub rowBone : Bone Place
@@ -51,21 +51,21 @@ pub record RowsControls : Type 0 where
   pub boneRowsBack : bonesOf 2 (edited ((12, 0xFFFF_000F) ∷ []) rowOfBone ++ rowOfBone) ≡ rowBone ∷ rowBone ∷ []
   -- an entry's words: tag, position, link
   pub entryLaid : entryWords (entryRow 1 2 3) ≡ 1 ∷ 2 ∷ 3 ∷ []
-  -- a rotation limit's 55 words, and a translation limit's 23
+  -- a rotation limit's 49 words, and a translation limit's 16
   pub rotationLaid :
       rotationWords rotation1 ≡
-      0x6_0005 ∷ 101 ∷ 102 ∷ 103 ∷ 104 ∷ 105 ∷ 106 ∷ 200 ∷
+      5 ∷ 101 ∷ 102 ∷ 103 ∷ 104 ∷ 105 ∷ 106 ∷ 200 ∷
       201 ∷ 202 ∷ 203 ∷ 204 ∷ 205 ∷ 206 ∷ 207 ∷ 208 ∷
       209 ∷ 210 ∷ 211 ∷ 212 ∷ 213 ∷ 214 ∷ 215 ∷ 216 ∷
       217 ∷ 218 ∷ 219 ∷ 220 ∷ 221 ∷ 222 ∷ 223 ∷ 224 ∷
       225 ∷ 226 ∷ 227 ∷ 228 ∷ 229 ∷ 230 ∷ 231 ∷ 232 ∷
       233 ∷ 234 ∷ 235 ∷ 236 ∷ 237 ∷ 238 ∷ 239 ∷ 240 ∷
-      241 ∷ 242 ∷ 243 ∷ 244 ∷ 245 ∷ 246 ∷ 247 ∷ []
+      6 ∷ []
   pub translationLaid :
       translationWords translation1 ≡
       0x1_0007 ∷ 111 ∷ 112 ∷ 113 ∷ 114 ∷ 115 ∷ 116 ∷ 300 ∷
-      301 ∷ 302 ∷ 303 ∷ 304 ∷ 305 ∷ 306 ∷ 307 ∷ 308 ∷
-      309 ∷ 310 ∷ 311 ∷ 312 ∷ 313 ∷ 314 ∷ 315 ∷ []
-  -- and their rows are these limits again
-  pub rotationRowBack : rotationRow (rotationWords rotation1) ≡ rotation1
-  pub translationRowBack : translationRow (translationWords translation1) ≡ translation1
+      301 ∷ 302 ∷ 303 ∷ 304 ∷ 305 ∷ 306 ∷ 307 ∷ 308 ∷ []
+  -- and their rows are these limits again, with ids of 32 bits; the upper half of word 48 is not looked at
+  pub rotationRowBack : rotationRow (edited ((48, 0xFFFF_0006) ∷ []) (rotationWords rotation1)) ≡ rotation1
+  pub wideRowBack : rotationRow (rotationWords (rotationOf 0xFFFF_FFFF)) ≡ rotationOf 0xFFFF_FFFF
+  pub translationRowBack : translationRow (translationWords (translationOf 0xFFFF_FFFF)) ≡ translationOf 0xFFFF_FFFF

@@ -49,16 +49,9 @@ pub const POOL_WORDS: usize = 4;
 // of the pending list
 pub const PENDING_WORDS: usize = 2;
 
-// of limits: the named fields, and behind them every slot of the record
-pub const LIMIT_NAMED_WORDS: usize = 7;
+pub const ROTATION_LIMIT_WORDS: usize = 49;
 
-pub const LIMIT_LEAST: usize = 1;
-
-pub const LIMIT_GREATEST: usize = 4;
-
-pub const ROTATION_LIMIT_WORDS: usize = 55;
-
-pub const TRANSLATION_LIMIT_WORDS: usize = 23;
+pub const TRANSLATION_LIMIT_WORDS: usize = 16;
 
 // ---- the words of a bone's row; where two fields share a word, the first is its lower half
 
@@ -109,6 +102,21 @@ pub const ENTRY_POSITION: usize = 1;
 
 pub const ENTRY_LINK: usize = 2;
 
+// ---- the words of a limit's row
+
+pub const LIMIT_ID: usize = 0;
+
+// three words each
+pub const LIMIT_LEAST: usize = 1;
+
+pub const LIMIT_GREATEST: usize = 4;
+
+// the slots of the record that no field names, 41 or 9
+pub const LIMIT_OTHER: usize = 7;
+
+// of a rotation limit: the second 16-bit number; beside it a free half
+pub const ROTATION_SECOND: usize = 48;
+
 // ---- the words of column 4 of a matrix
 
 pub const COLUMN4_X: usize = 3;
@@ -129,6 +137,9 @@ pub const JOINTS_KIND: u32 = 1080130656;
 
 // the most bones, child entries or limits that a 16-bit count holds
 pub const MOST: usize = 65535;
+
+// the greatest id that the record of a rotation limit has room for
+pub const GREATEST_ROTATION_ID: u32 = 65535;
 
 // the longest name that our writer takes, in bytes
 pub const LONGEST_NAME: usize = 255;
@@ -164,7 +175,7 @@ pub enum Refusal {
     TooManyChildren,
     // 4, whoever made the bones: a name over 255 bytes, holding a zero byte or not lying in the lent name bytes, in writing only.
     BadName,
-    // 5, the caller: the output buffer is shorter than the section to write.
+    // 5, the caller: the output buffer is shorter than the section or the record to write.
     BufferTooShort,
     // 6, whoever made the limits: more than 65,535 in either list.
     TooManyLimits,
@@ -188,6 +199,8 @@ pub enum Refusal {
     Inverse,
     // 25, likewise: the local matrices.
     Local,
+    // 35, whoever made the limits: the id of a rotation limit is above 65,535, in writing only.
+    BadLimitId,
 }
 
 // The number of the refusal, in every list of them.
@@ -211,5 +224,6 @@ pub fn code(r: Refusal) -> u32
         Refusal::Children => 23,
         Refusal::Inverse => 24,
         Refusal::Local => 25,
+        Refusal::BadLimitId => 35,
     }
 }

@@ -1,8 +1,7 @@
--- A written section reads back (docs/FORMAT.md, "Joints and names"). In order: bytes in the system half; fields of a laid record;
--- one list
+-- A written section reads back (docs/FORMAT.md, "Joints and names"). In order: bytes in the system half; fields of a laid record; one list
 -- of either kind; the theorem. Assumes nothing.
 use mathlib.Core.Path.{_≡_, refl, sym, ap, _∙_}
-use mathlib.Core.Option.{Option, none, some}
+use mathlib.Core.Option.{some}
 use mathlib.Core.List.{List, [], _∷_, _++_, map, flatMap, append-nil, append-assoc}
 use Prim.Native.Nat.{ℕ, suc, _+_, _*_, _/_, _%_, _^_, _≤_, _<_}
 use native.Mathlib.Nat.{mul-zero, mul-suc, mul-assoc, mod-eq-of-lt}
@@ -15,9 +14,10 @@ use Rattle.format.specs.Field.{field, bytes, words, wordBytes, Item, _⊳_, lay
 use Rattle.format.specs.Section.{Section, window, spot, part}
 use Rattle.format.specs.Layout.{base, pointer}
 use Rattle.format.specs.Joints.{RotationLimit, rotationSlots, rotationLimit, TranslationLimit, translationSlots, translationLimit}
-use Rattle.format.specs.Joints.{jointsItems, jointsLayout, limitRows, limits, mapped, Joints, readJoints}
+use Rattle.format.specs.Joints.{jointsItems, jointsLayout, limitRows, limits, mapped, readJoints}
 use Rattle.format.proofs.Fields.{length-bytes, valueOf-bytes}
 use Rattle.joints.specs.Reading.{recordOf, recordsTaken, listsRead}
+use Rattle.joints.specs.OneWidth.{standing, jointsOf}
 use Rattle.fields.proofs.WordLists.{Fit, length-wordBytes, words-wordBytes}
 use Rattle.joints.proofs.Finding.{field-part, bytes-some, limits-absent, limits-taken}
 use Rattle.joints.proofs.Laying.{pointer-lt, length-header}
@@ -57,42 +57,47 @@ field-laid is k v js rest at e h =
 
 -- ---- one list
 
--- a list that stands is not empty
-abbrev pub standing : {A : Type 0} → List A → Option (List A)
-standing [] = none
-standing (x ∷ l) = some (x ∷ l)
+-- n numbers of 32 bits behind others
+pub fit-append : (a b : List ℕ) → Fit 4 a → Fit 4 b → Fit 4 (a ++ b)
+fit-append [] b f g = g
+fit-append (x ∷ a) b f g = (f .0, fit-append a b (f .1) g)
 
-module _ {L : Type 0} (slots : L → List ℕ) (k : ℕ) where
-  -- each limit has k slots of 32 bits
-  abbrev pub EachFits : List L → Type 0
-  EachFits [] = Unit {0}
-  EachFits (l ∷ ls) = (length (slots l) ≡ k) × (Fit 4 (slots l) × EachFits ls)
+module _ {L : Type 0} (slots : L → List ℕ) (limit : List ℕ → L) (k : ℕ) where
+  -- each limit has k slots of 32 bits, which are read as the limit
+  abbrev pub EachBack : List L → Type 0
+  EachBack [] = Unit {0}
+  EachBack (l ∷ ls) = (length (slots l) ≡ k) × (Fit 4 (slots l) × ((limit (slots l) ≡ l) × EachBack ls))
 
-  length-slots : (ls : List L) → EachFits ls → length (flatMap slots ls) ≡ k * length ls
+  length-slots : (ls : List L) → EachBack ls → length (flatMap slots ls) ≡ k * length ls
   unfolding flatMap
   length-slots [] f = sym (mul-zero k)
-  length-slots (l ∷ ls) f = simp (length-append, f .0, length-slots ls (f .1 .1), mul-suc) (omega arith)
+  length-slots (l ∷ ls) f = simp (length-append, f .0, length-slots ls (f .1 .1 .1), mul-suc) (omega arith)
 
-  fit-append : (a b : List ℕ) → Fit 4 a → Fit 4 b → Fit 4 (a ++ b)
-  fit-append [] b f g = g
-  fit-append (x ∷ a) b f g = (f .0, fit-append a b (f .1) g)
-
-  fit-slots : (ls : List L) → EachFits ls → Fit 4 (flatMap slots ls)
+  fit-slots : (ls : List L) → EachBack ls → Fit 4 (flatMap slots ls)
   unfolding flatMap
   fit-slots [] f = tt
-  fit-slots (l ∷ ls) f = fit-append (slots l) (flatMap slots ls) (f .1 .0) (fit-slots ls (f .1 .1))
+  fit-slots (l ∷ ls) f = fit-append (slots l) (flatMap slots ls) (f .1 .0) (fit-slots ls (f .1 .1 .1))
 
-  rows-slots : (ls : List L) → EachFits ls → limitRows k (length ls) (flatMap slots ls) ≡ map slots ls
+  rows-slots : (ls : List L) → EachBack ls → limitRows k (length ls) (flatMap slots ls) ≡ map slots ls
   unfolding limitRows flatMap
   rows-slots [] f = refl
   rows-slots (l ∷ ls) f =
       let t : take k (slots l ++ flatMap slots ls) ≡ slots l = take-at (slots l) (flatMap slots ls) k (f .0) in
       let d : drop k (slots l ++ flatMap slots ls) ≡ flatMap slots ls = drop-at (slots l) (flatMap slots ls) k (f .0) in
-      simp (t, d, rows-slots ls (f .1 .1))
+      simp (t, d, rows-slots ls (f .1 .1 .1))
+
+  -- what is read of them
+  pub mapped-back : (ls : List L) → EachBack ls → mapped limit (standing (map slots ls)) ≡ standing ls
+  mapped-back [] f = refl
+  mapped-back (l ∷ ls) f = ap some (all-back (l ∷ ls) f)
+    where
+      all-back : (ls : List L) → EachBack ls → map limit (map slots ls) ≡ ls
+      all-back [] f = refl
+      all-back (l ∷ ls) f = simp (f .1 .1 .0, all-back ls (f .1 .1 .1))
 
   taken-back :
       (room : ℕ) (ls : List L) (rest : List ℕ) →
-      EachFits ls →
+      EachBack ls →
       length ls ≤ room →
       recordsTaken room k (length ls) (wordBytes 4 (flatMap slots ls) ++ rest) ≡ done (some (map slots ls))
   unfolding recordsTaken
@@ -104,7 +109,7 @@ module _ {L : Type 0} (slots : L → List ℕ) (k : ℕ) where
   -- the list laid behind `front`
   limits-back :
       (front : List ℕ) (ls : List L) (rest gfx : List ℕ) (room o : ℕ) →
-      EachFits ls →
+      EachBack ls →
       length ls ≤ room →
       length front ≡ o →
       o < window →
@@ -172,13 +177,11 @@ module _ (r t : ℕ) (hr : r ≤ 65535) (ht : t ≤ 65535) (rest : List ℕ) whe
 
 -- ---- the section
 
--- Whatever graphics bytes stand beside it, a written section reads back the counts and, slot by slot, every limit; an empty list
--- does
--- not stand.
+-- Whatever graphics bytes stand beside it, a written section reads back the counts and every limit; an empty list does not stand.
 module _
     (rs : List RotationLimit) (ts : List TranslationLimit) (gfx : List ℕ) (rroom troom : ℕ)
     (few-r : length rs ≤ 65535) (few-t : length ts ≤ 65535) (room-r : length rs ≤ rroom) (room-t : length ts ≤ troom)
-    (fit-r : EachFits rotationSlots 48 rs) (fit-t : EachFits translationSlots 16 ts)
+    (fit-r : EachBack rotationSlots rotationLimit 48 rs) (fit-t : EachBack translationSlots translationLimit 16 ts)
   where
     abbrev head : List ℕ
     head = lay (jointsItems (length rs) (length ts))
@@ -200,7 +203,7 @@ module _
         limits whole rroom 48 (pointer (base + 64) (length rs)) (length rs) ≡ done (standing (map rotationSlots rs))
     rotations-back =
         rw laid-in
-        (limits-back rotationSlots 48 head rs translations gfx rroom 64 fit-r room-r (length-header (length rs) (length ts))
+        (limits-back rotationSlots rotationLimit 48 head rs translations gfx rroom 64 fit-r room-r (length-header (length rs) (length ts))
         (omega arith) (omega arith))
 
     translations-back :
@@ -208,26 +211,15 @@ module _
         (standing (map translationSlots ts))
     translations-back =
         let n = length-wordBytes 4 (flatMap rotationSlots rs) in
-        let k = length-slots rotationSlots 48 rs fit-r in
+        let k = length-slots rotationSlots rotationLimit 48 rs fit-r in
         let front : length (head ++ rotations) ≡ 64 + 192 * length rs =
         simp (length-append, length-header, n, k) (omega arith) in
         let again : jointsLayout rs ts ≡ (head ++ rotations) ++ (translations ++ []) = laid-in ∙ simp
         (append-assoc, append-nil) in
         let at : base + 64 + 192 * length rs ≡ base + (64 + 192 * length rs) = omega arith in
         rw (again, at)
-        (limits-back translationSlots 16 (head ++ rotations) ts [] gfx troom (64 + 192 * length rs) fit-t room-t front
+        (limits-back translationSlots translationLimit 16 (head ++ rotations) ts [] gfx troom (64 + 192 * length rs) fit-t room-t front
         (omega arith) (omega arith))
-
-    -- the joints that are read
-    abbrev read-back : Joints
-    read-back =
-        record {
-          kind = 1080130656;
-          rotationCount = length rs;
-          translationCount = length ts;
-          rotation = mapped rotationLimit (standing (map rotationSlots rs));
-          translation = mapped translationLimit (standing (map translationSlots ts));
-        }
 
     lists-back :
         listsRead whole rroom troom
@@ -238,11 +230,17 @@ module _
           «rotation_count» = length rs;
           «translation_count» = length ts;
         })
-        ≡ done (some read-back)
+        ≡ done (some (jointsOf rs ts))
     unfolding listsRead
-    lists-back = rw (rotations-back, translations-back) refl
+    lists-back =
+        rw (
+          rotations-back,
+          translations-back,
+          mapped-back rotationSlots rotationLimit 48 rs fit-r,
+          mapped-back translationSlots translationLimit 16 ts fit-t,
+        ) refl
 
-    pub joints-back : readJoints whole rroom troom base ≡ done (some read-back)
+    pub joints-back : readJoints whole rroom troom base ≡ done (some (jointsOf rs ts))
     joints-back =
         let size : 64 ≤ length (jointsLayout rs ts) =
         rw laid-in (simp (length-append, length-header) (omega arith)) in

@@ -19,8 +19,9 @@ use Rattle.format.specs.Section.{Section, part, array}
 use Rattle.format.specs.Rows.{laid, cleared}
 use Rattle.format.specs.Joints.{limitRows, limits}
 use Rattle.fields.proofs.Laws.{fieldAt-stands}
-use Rattle.joints.specs.Limit.{limitWords, limitRowWords}
+use Rattle.joints.specs.Limit.{slotsOf, widthOf, rowOf, rowWords}
 use Rattle.joints.specs.Reading.{recordOf, FindsRecord, recordsTaken, Stage, meantList, limitsAt}
+use Rattle.joints.specs.declared.limits.LimitKind.{LimitKind}
 use Rattle.joints.specs.declared.read.Record.{Record}
 use Rattle.joints.specs.declared.read.Found.the-variants.{At, Refused as no-record}
 use Rattle.joints.specs.declared.read.Step.{Step}
@@ -163,22 +164,22 @@ module _ {f : List ℕ → List ℕ} {g : Res (Option (List (List ℕ)))} {t : L
 pub rows-room : (m w n : ℕ) → 0 < w → n ≤ m / w → w * n ≤ m
 rows-room m w n p h = rw mul-comm (le-div-iff-mul-le p .0 h)
 
-module _ (least greatest slots n : ℕ) (s : List ℕ) where
+module _ (k : LimitKind) (n : ℕ) (s : List ℕ) where
   pub taken-short :
       {t : List ℕ} →
       t ≡ cleared (length t) →
-      length t / (7 + slots) < n →
-      Stage (limitWords least greatest) (recordsTaken (length t / (7 + slots)) slots n s) (stopped TableTooShort) t t
+      length t / widthOf k < n →
+      Stage (rowOf k) (recordsTaken (length t / widthOf k) (slotsOf k) n s) (stopped TableTooShort) t t
   unfolding recordsTaken
-  taken-short {t} z h = stage-refused z TableTooShort (rw (lt-leb n (length t / (7 + slots)) h) refl)
+  taken-short {t} z h = stage-refused z TableTooShort (rw (lt-leb n (length t / widthOf k) h) refl)
 
   pub taken-rows :
       {t t' : List ℕ} →
-      n ≤ length t / (7 + slots) →
-      t' ≡ laid (limitRowWords least greatest slots n s) (length t) →
-      Stage (limitWords least greatest) (recordsTaken (length t / (7 + slots)) slots n s) Done t t'
-  unfolding recordsTaken limitRowWords
-  taken-rows {t} h e = rw (le-leb n (length t / (7 + slots)) h) (record { answer = refl; table = e })
+      n ≤ length t / widthOf k →
+      t' ≡ laid (rowWords k n s) (length t) →
+      Stage (rowOf k) (recordsTaken (length t / widthOf k) (slotsOf k) n s) Done t t'
+  unfolding recordsTaken rowWords
+  taken-rows {t} h e = rw (le-leb n (length t / widthOf k) h) (record { answer = refl; table = e })
 
 -- ---- a list by its pointer
 

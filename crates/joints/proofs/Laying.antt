@@ -2,6 +2,7 @@
 -- the
 -- stores that lay it; the ways out of `write`. Assumes nothing.
 use mathlib.Core.Path.{_≡_, refl, sym, ap, _∙_}
+use mathlib.Core.Bool.{true, false}
 use mathlib.Core.List.{List, [], _∷_, _++_, flatMap, append-assoc}
 use Prim.Native.Nat.{ℕ, zero, suc, _+_, _*_, _/_, _%_, _^_, _≤_, _<_}
 use native.Mathlib.Nat.{zero-add, mod-eq-of-lt, div-eq-of-lt, add-mul-mod-self-left, add-mul-div-left}
@@ -13,19 +14,20 @@ use lib.Seq.{sets, sets-eq, take-all}
 use Rattle.format.specs.Result.{Res, done, _>>=_, need}
 use Rattle.format.specs.Field.{bytes, wordBytes, lay}
 use Rattle.format.specs.Layout.{pointer}
-use Rattle.format.specs.Joints.{jointsItems, jointsLayout, jointsWritten, limitRows}
-use Rattle.format.specs.declared.Refusal.the-variants.{TableTooShort, BufferTooShort, TooManyLimits}
+use Rattle.format.specs.Joints.{idsFit, jointsItems, jointsLayout, jointsWritten, limitRows}
+use Rattle.format.specs.declared.Refusal.the-variants.{TableTooShort, BufferTooShort, TooManyLimits, BadLimitId}
 use Rattle.format.proofs.Fields.{length-bytes, bytes-add, bytes-mod, pow-pos}
 use Rattle.fields.proofs.Stores.{sets-append}
 use Rattle.joints.specs.declared.write.JointsWritten.{JointsWritten}
 use Rattle.joints.specs.declared.write.JointsWritten.the-variants.{Done, Refused}
-use Rattle.joints.specs.Limit.{limitSlots, recordSlots}
+use Rattle.joints.specs.Limit.{slotsIn, recordSlots}
+use Rattle.joints.specs.declared.limits.LimitKind.the-variants.{Rotation, Translation}
 use Rattle.joints.specs.Written.{rotationsOf, translationsOf, tableWritten, meantWritten, leftIn}
 use Rattle.tables.specs.Outcome.{sizeOf}
 use Rattle.fields.proofs.WordLists.{length-wordBytes}
 use Rattle.joints.proofs.RowLists.{length-made}
-use Rattle.joints.proofs.RowLoops.{length-limitSlots}
-use Rattle.joints.proofs.BothKinds.{length-rotationsOf, length-translationsOf, rotation-records, translation-records}
+use Rattle.joints.proofs.BothKinds.{length-slotsIn, length-rotationsOf, length-translationsOf, rotation-records}
+use Rattle.joints.proofs.BothKinds.{translation-records}
 
 -- ---- the record as words
 
@@ -93,24 +95,24 @@ module _ (rotation : List ℕ) (r : ℕ) (translation : List ℕ) (t : ℕ) wher
   -- the section is the record, then the records of the rows of the two tables
   layout-parts :
       layout
-      ≡ lay (jointsItems r t) ++ (wordBytes 4 (recordSlots 23 26 48 r rotation) ++ wordBytes 4
-      (recordSlots 8 12 16 t translation))
+      ≡ lay (jointsItems r t) ++ (wordBytes 4 (recordSlots Rotation r rotation) ++ wordBytes 4
+      (recordSlots Translation t translation))
   unfolding layout jointsLayout
   layout-parts = simp (length-rotationsOf, length-translationsOf, rotation-records, translation-records, append-assoc)
 
-  module _ (hr : 55 * r ≤ length rotation) (ht : 23 * t ≤ length translation) where
-    length-rotations : length (wordBytes 4 (recordSlots 23 26 48 r rotation)) ≡ 192 * r
+  module _ (hr : 49 * r ≤ length rotation) (ht : 16 * t ≤ length translation) where
+    length-rotations : length (wordBytes 4 (recordSlots Rotation r rotation)) ≡ 192 * r
     unfolding recordSlots
     length-rotations =
-        length-wordBytes 4 (flatMap (limitSlots 23 26 48) (limitRows 55 r rotation))
-        ∙ simp (length-made (limitSlots 23 26 48) 55 48 r rotation (λ x e. length-limitSlots 23 26 48 x (omega arith)) hr)
+        length-wordBytes 4 (flatMap (slotsIn Rotation) (limitRows 49 r rotation))
+        ∙ simp (length-made (slotsIn Rotation) 49 48 r rotation (λ x e. length-slotsIn Rotation x (omega arith)) hr)
         (omega arith)
 
-    length-translations : length (wordBytes 4 (recordSlots 8 12 16 t translation)) ≡ 64 * t
+    length-translations : length (wordBytes 4 (recordSlots Translation t translation)) ≡ 64 * t
     unfolding recordSlots
     length-translations =
-        length-wordBytes 4 (flatMap (limitSlots 8 12 16) (limitRows 23 t translation))
-        ∙ simp (length-made (limitSlots 8 12 16) 23 16 t translation (λ x e. length-limitSlots 8 12 16 x (omega arith)) ht)
+        length-wordBytes 4 (flatMap (slotsIn Translation) (limitRows 16 t translation))
+        ∙ simp (length-made (slotsIn Translation) 16 16 t translation (λ x e. length-slotsIn Translation x (omega arith)) ht)
         (omega arith)
 
     pub length-layout : length (jointsLayout (rotationsOf r rotation) (translationsOf t translation)) ≡ 64 + 192 * r + 64 * t
@@ -125,15 +127,15 @@ module _ (rotation : List ℕ) (r : ℕ) (translation : List ℕ) (t : ℕ) wher
         length head ≡ 16 →
         wordBytes 4 head ≡ lay (jointsItems r t) →
         d₁ ≡ sets d 0 (wordBytes 4 (take 16 head)) →
-        d₂ ≡ sets d₁ 64 (wordBytes 4 (recordSlots 23 26 48 r rotation)) →
-        d₃ ≡ sets d₂ (64 + 192 * r) (wordBytes 4 (recordSlots 8 12 16 t translation)) →
+        d₂ ≡ sets d₁ 64 (wordBytes 4 (recordSlots Rotation r rotation)) →
+        d₃ ≡ sets d₂ (64 + 192 * r) (wordBytes 4 (recordSlots Translation t translation)) →
         d₃ ≡ sets d 0 (jointsLayout (rotationsOf r rotation) (translationsOf t translation))
     unfolding layout
     layout-stored d head {d₁} {d₂} {d₃} n h e₁ e₂ e₃ =
         let whole : take 16 head ≡ head = take-all 16 head (omega arith) in
         let a : List ℕ = lay (jointsItems r t) in
-        let b : List ℕ = wordBytes 4 (recordSlots 23 26 48 r rotation) in
-        let c : List ℕ = wordBytes 4 (recordSlots 8 12 16 t translation) in
+        let b : List ℕ = wordBytes 4 (recordSlots Rotation r rotation) in
+        let c : List ℕ = wordBytes 4 (recordSlots Translation t translation) in
         let one : sets d 0 (a ++ (b ++ c)) ≡ sets (sets d 0 a) 64 (b ++ c) =
         sets-append a (b ++ c) d 0 ∙ simp (length-header, zero-add) in
         let two : sets (sets d 0 a) 64 (b ++ c) ≡ sets (sets (sets d 0 a) 64 b) (64 + 192 * r) c =
@@ -160,59 +162,65 @@ module _ (rotation : List ℕ) (r : ℕ) (translation : List ℕ) (t : ℕ) (out
 
     module _ (ht : t ≤ 65535) where
       pub short-rotations :
-          length rotation < 55 * r → Writes (tableWritten (length out) rotation r translation t) (Refused TableTooShort) out out
+          length rotation < 49 * r → Writes (tableWritten (length out) rotation r translation t) (Refused TableTooShort) out out
       unfolding tableWritten
-      short-rotations h = rw (le-leb r 65535 hr, le-leb t 65535 ht, lt-leb (55 * r) (length rotation) h) (refl, refl)
+      short-rotations h = rw (le-leb r 65535 hr, le-leb t 65535 ht, lt-leb (49 * r) (length rotation) h) (refl, refl)
 
-      module _ (rr : 55 * r ≤ length rotation) where
+      module _ (rr : 49 * r ≤ length rotation) where
         pub short-translations :
-            length translation < 23 * t → Writes (tableWritten (length out) rotation r translation t) (Refused TableTooShort)
+            length translation < 16 * t → Writes (tableWritten (length out) rotation r translation t) (Refused TableTooShort)
             out out
         unfolding tableWritten
         short-translations h =
             rw (
               le-leb r 65535 hr,
               le-leb t 65535 ht,
-              le-leb (55 * r) (length rotation) rr,
-              lt-leb (23 * t) (length translation)
+              le-leb (49 * r) (length rotation) rr,
+              lt-leb (16 * t) (length translation)
                   h,
             ) (refl, refl)
 
-        module _ (rt : 23 * t ≤ length translation) where
+        module _ (rt : 16 * t ≤ length translation) where
           size : length (jointsLayout (rotationsOf r rotation) (translationsOf t translation)) ≡ 64 + 192 * r + 64 * t
           size = length-layout rotation r translation t rr rt
 
           passed :
               (n : ℕ) →
               tableWritten n rotation r translation t
-              ≡ (need 5 (leb (64 + 192 * r + 64 * t) n) >>= λ u. done
+              ≡ (need 35 (idsFit (rotationsOf r rotation)) >>= λ u. need 5 (leb (64 + 192 * r + 64 * t) n) >>= λ v. done
               (jointsLayout (rotationsOf r rotation) (translationsOf t translation)))
           unfolding tableWritten jointsWritten
           passed n =
               simp (
                 le-leb r 65535 hr,
                 le-leb t 65535 ht,
-                le-leb (55 * r) (length rotation) rr,
-                le-leb (23 * t) (length translation)
+                le-leb (49 * r) (length rotation) rr,
+                le-leb (16 * t) (length translation)
                     rt,
                 length-rotationsOf,
                 length-translationsOf,
                 size,
               )
 
-          pub short-buffer :
-              length out < 64 + 192 * r + 64 * t →
-              Writes (tableWritten (length out) rotation r translation t) (Refused BufferTooShort) out out
-          short-buffer h = rw (passed (length out), lt-leb (64 + 192 * r + 64 * t) (length out) h) (refl, refl)
+          pub wide-id :
+              idsFit (rotationsOf r rotation) ≡ false →
+              Writes (tableWritten (length out) rotation r translation t) (Refused BadLimitId) out out
+          wide-id e = rw (passed (length out), e) (refl, refl)
 
-          pub all-written :
-              {out' : List ℕ} →
-              64 + 192 * r + 64 * t ≤ length out →
-              out' ≡ sets out 0 (jointsLayout (rotationsOf r rotation) (translationsOf t translation)) →
-              Writes (tableWritten (length out) rotation r translation t) (Done (64 + 192 * r + 64 * t)) out out'
-          all-written h e =
-              let b : List ℕ = jointsLayout (rotationsOf r rotation) (translationsOf t translation) in
-              let fits : 0 + length b ≤ length out = omega (arith, size) in
-              let left = sets-eq b out 0 fits in
-              rw (passed (length out), le-leb (64 + 192 * r + 64 * t) (length out) h)
-              (ap done (sym size), e ∙ rw zero-add at left)
+          module _ (ids : idsFit (rotationsOf r rotation) ≡ true) where
+            pub short-buffer :
+                length out < 64 + 192 * r + 64 * t →
+                Writes (tableWritten (length out) rotation r translation t) (Refused BufferTooShort) out out
+            short-buffer h = rw (passed (length out), ids, lt-leb (64 + 192 * r + 64 * t) (length out) h) (refl, refl)
+
+            pub all-written :
+                {out' : List ℕ} →
+                64 + 192 * r + 64 * t ≤ length out →
+                out' ≡ sets out 0 (jointsLayout (rotationsOf r rotation) (translationsOf t translation)) →
+                Writes (tableWritten (length out) rotation r translation t) (Done (64 + 192 * r + 64 * t)) out out'
+            all-written h e =
+                let b : List ℕ = jointsLayout (rotationsOf r rotation) (translationsOf t translation) in
+                let fits : 0 + length b ≤ length out = omega (arith, size) in
+                let left = sets-eq b out 0 fits in
+                rw (passed (length out), ids, le-leb (64 + 192 * r + 64 * t) (length out) h)
+                (ap done (sym size), e ∙ rw zero-add at left)

@@ -1,9 +1,13 @@
 pub mod Row
 pub mod RowLists
-pub mod RowLoops
 pub mod BothKinds
+pub mod RowLoops
+pub mod OneRecord
+pub mod Ids
 pub mod Laying
 pub mod Finding
 pub mod Lists
 pub mod Codecs
 pub mod Back
+pub mod CallsBack
+pub mod OneWidth

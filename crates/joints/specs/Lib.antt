@@ -1,3 +1,4 @@
 pub mod Limit
 pub mod Written
 pub mod Reading
+pub mod OneWidth

@@ -1,28 +1,178 @@
-// Limits of joints (docs/FORMAT.md, "Joints and names"). A record is 48 or 16 slots of 32 bits, and the named fields are some of
-// them: the id at slot 2, with the second 16-bit number of a rotation limit in its upper half, and three slots each of least and
-// greatest. A row of a table holds the named fields, words 0, 1 to 3 and 4 to 6, and behind them every slot of the record.
+// Limits of joints (docs/FORMAT.md, "Joints and names"): their two kinds; the records of a list, as rows of a table; one record read and
+// written; the fresh limit.
 ghost use mathlib.Core.Path.{_≡_};
 ghost use Prim.Native.Nat.{_+_, _*_, _≤_};
 ghost use lib.ListN.{length, drop};
 ghost use lib.Seq.{sets};
 ghost use Rattle.format.specs.Field.{words, wordBytes};
-ghost use Rattle.format.specs.Joints.{freshSlots};
+ghost use Rattle.format.specs.Joints.{rotationLimit, rotationWords, rotationRow, rotationWritten, freshRotationLimit};
+ghost use Rattle.format.specs.Joints.{translationLimit, translationWords, translationRow, translationWritten};
 ghost use Rattle.format.specs.Rows.{laid, cleared};
-ghost use Rattle.joints.specs.Limit.{limitWords, limitSlots, limitRowWords, recordSlots, Shaped};
+ghost use Rattle.joints.specs.Limit.{slotsOf, widthOf, rowOf, slotsIn, rowWords, recordSlots};
+ghost use Rattle.joints.specs.Reading.{whether};
+ghost use Rattle.joints.specs.Written.{meantRecordWritten, leftIn};
+use crate::records;
 use crate::words;
+use format::Refusal;
 
-// The slots of a record of each kind, and those at which its least and its greatest stand.
-pub const ROTATION_SLOTS: usize = 48;
+pub enum LimitKind {
+    Rotation,
+    Translation,
+}
 
-pub const ROTATION_LEAST: usize = 23;
+// The slots of a record.
+pub(crate) fn slots_of(k: LimitKind) -> usize
+    ensures { λ r. ⌜ r ≡ slotsOf k ⌝ }
+{
+    match k {
+        LimitKind::Rotation => 48,
+        LimitKind::Translation => 16,
+    }
+}
 
-pub const ROTATION_GREATEST: usize = 26;
+// The words of a row.
+pub(crate) fn width_of(k: LimitKind) -> usize
+    ensures { λ r. ⌜ r ≡ widthOf k ⌝ }
+{
+    match k {
+        LimitKind::Rotation => format::ROTATION_LIMIT_WORDS,
+        LimitKind::Translation => format::TRANSLATION_LIMIT_WORDS,
+    }
+}
 
-pub const TRANSLATION_SLOTS: usize = 16;
+// ---- a record of either kind as a row, and a row as a record
 
-pub const TRANSLATION_LEAST: usize = 8;
+// The record at `from` as the row at `to`.
+fn load_row(k: LimitKind, s: &[u8], from: usize, t: &mut [u32], to: usize)
+    requires { ⌜ (from + 4 * slotsOf k ≤ length (now s)) × (to + widthOf k ≤ length (now t)) ⌝ }
+    ensures { λ _. ⌜ now (t .exit) ≡
+        sets (now (t .entry)) to (rowOf k (words 4 (slotsOf k) (drop from (now (s .entry))))) ⌝ }
+{
+    match k {
+        LimitKind::Rotation => {
+            let e = from + format::ROTATION_LIMIT_SIZE;
+            records::load_rotation(&s[from..e], t, to)
+        }
+        LimitKind::Translation => {
+            let e = from + format::TRANSLATION_LIMIT_SIZE;
+            records::load_translation(&s[from..e], t, to)
+        }
+    }
+}
 
-pub const TRANSLATION_GREATEST: usize = 12;
+// The row at `from` as the record at `at`.
+fn store_row(k: LimitKind, t: &[u32], from: usize, d: &mut [u8], at: usize)
+    requires { ⌜ (from + widthOf k ≤ length (now t)) × (at + 4 * slotsOf k ≤ length (now d)) ⌝ }
+    ensures { λ _. ⌜ now (d .exit) ≡ sets (now (d .entry)) at (wordBytes 4 (slotsIn k (drop from (now (t .entry))))) ⌝ }
+{
+    match k {
+        LimitKind::Rotation => {
+            let e = from + format::ROTATION_LIMIT_WORDS;
+            records::store_rotation(&t[from..e], d, at)
+        }
+        LimitKind::Translation => {
+            let e = from + format::TRANSLATION_LIMIT_WORDS;
+            records::store_translation(&t[from..e], d, at)
+        }
+    }
+}
+
+// ---- rows of a table
+
+// The n records from `at` on as the first rows of a table that is zero.
+pub(crate) fn load_rows(k: LimitKind, s: &[u8], at: usize, n: usize, t: &mut [u32])
+    requires room { ⌜ (at + 4 * (slotsOf k * n) ≤ length (now s)) × (widthOf k * n ≤ length (now t)) ⌝ }
+    requires zero { ⌜ now t ≡ cleared (length (now t)) ⌝ }
+    ensures { λ _. ⌜ now (t .exit) ≡ laid (rowWords k n (drop at (now (s .entry)))) (length (now (t .entry))) ⌝ }
+{
+    let slots = slots_of(k);
+    let width = width_of(k);
+    let mut from = at;
+    let mut to = 0;
+    let mut i = 0;
+    while i < n {
+        load_row(k, s, from, t, to);
+        from += 4 * slots;
+        to += width;
+        i += 1;
+    }
+}
+
+// The first n rows of a table as the records from `at` on.
+pub(crate) fn store_rows(k: LimitKind, t: &[u32], n: usize, d: &mut [u8], at: usize)
+    requires room { ⌜ (widthOf k * n ≤ length (now t)) × (at + 4 * (slotsOf k * n) ≤ length (now d)) ⌝ }
+    ensures { λ _. ⌜ now (d .exit) ≡ sets (now (d .entry)) at (wordBytes 4 (recordSlots k n (now (t .entry)))) ⌝ }
+{
+    let slots = slots_of(k);
+    let width = width_of(k);
+    let mut from = 0;
+    let mut to = at;
+    let mut i = 0;
+    while i < n {
+        store_row(k, t, from, d, to);
+        from += width;
+        to += 4 * slots;
+        i += 1;
+    }
+}
+
+// ---- one record
+
+pub enum RecordWritten {
+    Done,
+    Refused(Refusal),
+}
+
+// The row of a record.
+pub fn read_rotation(bytes: &[u8; 192]) -> [u32; 49]
+    ensures answer { λ r. ⌜ r ≡ rotationWords (rotationLimit (words 4 48 (now (bytes .entry)))) ⌝ }
+{
+    let mut row = [0u32; 49];
+    records::load_rotation(bytes, &mut row, 0);
+    row
+}
+
+pub fn read_translation(bytes: &[u8; 64]) -> [u32; 16]
+    ensures answer { λ r. ⌜ r ≡ translationWords (translationLimit (words 4 16 (now (bytes .entry)))) ⌝ }
+{
+    let mut row = [0u32; 16];
+    records::load_translation(bytes, &mut row, 0);
+    row
+}
+
+// The record of a row at the front of `out`. The refusals, in this order: 35 for an id above 65,535, 5 for a buffer of fewer bytes than a
+// record has. A refusal changes nothing, and what lies behind the record stays as it was.
+pub fn write_rotation(row: &[u32; 49], out: &mut [u8]) -> RecordWritten
+    ensures answer { λ w. ⌜ meantRecordWritten w
+        ≡ whether (rotationWritten (length (now (out .entry))) (rotationRow (now (row .entry)))) ⌝ }
+    ensures buffer { λ _. ⌜ now (out .exit)
+        ≡ leftIn (rotationWritten (length (now (out .entry))) (rotationRow (now (row .entry)))) (now (out .entry)) ⌝ }
+{
+    if format::GREATEST_ROTATION_ID < row[format::LIMIT_ID] {
+        return RecordWritten::Refused(Refusal::BadLimitId);
+    }
+    if out.len() < format::ROTATION_LIMIT_SIZE {
+        return RecordWritten::Refused(Refusal::BufferTooShort);
+    }
+    records::store_rotation(row, out, 0);
+    RecordWritten::Done
+}
+
+// The same of a translation limit, of which every id is written: 5 alone.
+pub fn write_translation(row: &[u32; 16], out: &mut [u8]) -> RecordWritten
+    ensures answer { λ w. ⌜ meantRecordWritten w
+        ≡ whether (translationWritten (length (now (out .entry))) (translationRow (now (row .entry)))) ⌝ }
+    ensures buffer { λ _. ⌜ now (out .exit)
+        ≡ leftIn (translationWritten (length (now (out .entry))) (translationRow (now (row .entry)))) (now (out .entry)) ⌝ }
+{
+    if out.len() < format::TRANSLATION_LIMIT_SIZE {
+        return RecordWritten::Refused(Refusal::BufferTooShort);
+    }
+    records::store_translation(row, out, 0);
+    RecordWritten::Done
+}
+
+// ---- the fresh rotation limit
 
 // 1.0, and pi and -pi as the nearest 32-bit floats.
 const ONE: u32 = 0x3F80_0000;
@@ -31,6 +181,7 @@ const PI: u32 = 0x4049_0FDB;
 
 const MINUS_PI: u32 = 0xC049_0FDB;
 
+// The slots of the default record.
 const FRESH: [u32; 48] = [
     0,
     0,
@@ -82,110 +233,12 @@ const FRESH: [u32; 48] = [
     256,
 ];
 
-// The slots of a fresh rotation limit, as the Rust's `Default` gives them.
-pub fn fresh_rotation_limit() -> [u32; 48]
-    ensures answer { λ r. ⌜ r ≡ freshSlots ⌝ }
+// Its row, as the Rust's `Default` gives it.
+pub fn fresh_rotation_limit() -> [u32; 49]
+    ensures answer { λ r. ⌜ r ≡ rotationWords freshRotationLimit ⌝ }
 {
-    FRESH
-}
-
-// ---- a record read into a row
-
-// The record at `from` as the row at `to`. Its least and greatest stand at these slots.
-fn load_row(
-    s: &[u8],
-    from: usize,
-    least: usize,
-    greatest: usize,
-    slots: usize,
-    t: &mut [u32],
-    to: usize,
-)
-    requires shape { ⌜ Shaped least greatest slots ⌝ }
-    requires room { ⌜ (from + 4 * slots ≤ length (now s)) × (to + (7 + slots) ≤ length (now t)) ⌝ }
-    ensures { λ _. ⌜ now (t .exit) ≡
-        sets (now (t .entry)) to (limitWords least greatest (words 4 slots (drop from (now (s .entry))))) ⌝ }
-{
-    words::load(s, from + 8, 1, t, to);
-    words::load(s, from + 4 * least, 3, t, to + format::LIMIT_LEAST);
-    words::load(s, from + 4 * greatest, 3, t, to + format::LIMIT_GREATEST);
-    words::load(s, from, slots, t, to + format::LIMIT_NAMED_WORDS);
-}
-
-// ---- a row written as a record
-
-// The row at `from` as the record at `at`: all the slots, and the named fields over their own.
-fn store_row(
-    t: &[u32],
-    from: usize,
-    least: usize,
-    greatest: usize,
-    slots: usize,
-    d: &mut [u8],
-    at: usize,
-)
-    requires shape { ⌜ Shaped least greatest slots ⌝ }
-    requires room { ⌜ (from + (7 + slots) ≤ length (now t)) × (at + 4 * slots ≤ length (now d)) ⌝ }
-    ensures { λ _. ⌜ now (d .exit) ≡
-        sets (now (d .entry)) at (wordBytes 4 (limitSlots least greatest slots (drop from (now (t .entry))))) ⌝ }
-{
-    words::store(t, from + format::LIMIT_NAMED_WORDS, slots, d, at);
-    words::store(t, from, 1, d, at + 8);
-    words::store(t, from + format::LIMIT_LEAST, 3, d, at + 4 * least);
-    words::store(t, from + format::LIMIT_GREATEST, 3, d, at + 4 * greatest);
-}
-
-// ---- rows of a table
-
-// The n records from `at` on as the first rows of a table that is zero.
-pub(crate) fn load_rows(
-    s: &[u8],
-    at: usize,
-    n: usize,
-    least: usize,
-    greatest: usize,
-    slots: usize,
-    t: &mut [u32],
-)
-    requires shape { ⌜ Shaped least greatest slots ⌝ }
-    requires room { ⌜ (at + 4 * (slots * n) ≤ length (now s)) × ((7 + slots) * n ≤ length (now t)) ⌝ }
-    requires zero { ⌜ now t ≡ cleared (length (now t)) ⌝ }
-    ensures { λ _. ⌜ now (t .exit) ≡
-        laid (limitRowWords least greatest slots n (drop at (now (s .entry)))) (length (now (t .entry))) ⌝ }
-{
-    let mut from = at;
-    let mut to = 0;
-    let mut i = 0;
-    while i < n {
-        load_row(s, from, least, greatest, slots, t, to);
-        from += 4 * slots;
-        to += format::LIMIT_NAMED_WORDS + slots;
-        i += 1;
-    }
-}
-
-// The first n rows of a table as the records from `at` on.
-pub(crate) fn store_rows(
-    t: &[u32],
-    n: usize,
-    least: usize,
-    greatest: usize,
-    slots: usize,
-    d: &mut [u8],
-    at: usize,
-)
-    requires shape { ⌜ Shaped least greatest slots ⌝ }
-    requires room { ⌜ ((7 + slots) * n ≤ length (now t)) × (at + 4 * (slots * n) ≤ length (now d)) ⌝ }
-    ensures { λ _. ⌜ now (d .exit) ≡
-        sets (now (d .entry)) at (wordBytes 4 (recordSlots least greatest slots n (now (t .entry)))) ⌝ }
-{
-    let mut from = 0;
-    let mut to = at;
-    let mut i = 0;
-    while i < n {
-        store_row(t, from, least, greatest, slots, d, to);
-        from += format::LIMIT_NAMED_WORDS + slots;
-        to += 4 * slots;
-        i += 1;
-    }
+    let slots = FRESH;
+    let mut bytes = [0u8; 192];
+    words::store(&slots, 0, 48, &mut bytes, 0);
+    read_rotation(&bytes)
 }

@@ -6,10 +6,11 @@ ghost use lib.ListN.{length, take, drop};
 ghost use Rattle.format.specs.Rows.{laid, cleared};
 ghost use Rattle.format.specs.Joints as Definitions;
 ghost use Rattle.blocks.specs.Places.{section};
-ghost use Rattle.joints.specs.Limit.{limitWords, Shaped};
+ghost use Rattle.joints.specs.Limit.{slotsOf, widthOf, rowOf};
 ghost use Rattle.joints.specs.Reading.{recordOf, FindsRecord, meantList, limitsAt, recordsTaken, Stage, listsRead, ReadsJoints};
 ghost use Rattle.joints.specs.Reading.{tableRead, meantJoints, rotationTable, translationTable};
 use crate::limits;
+use crate::limits::LimitKind;
 use blocks::places;
 use blocks::places::Located;
 use format::Refusal;
@@ -85,43 +86,25 @@ enum Step {
 }
 
 // The n records from `at` on, all of which stand.
-fn take_limits(
-    s: &[u8],
-    at: usize,
-    n: usize,
-    least: usize,
-    greatest: usize,
-    slots: usize,
-    t: &mut [u32],
-) -> Step
-    requires shape { ⌜ Shaped least greatest slots ⌝ }
-    requires bytes { ⌜ at + 4 * (slots * n) ≤ length (now s) ⌝ }
+fn take_limits(k: LimitKind, s: &[u8], at: usize, n: usize, t: &mut [u32]) -> Step
+    requires bytes { ⌜ at + 4 * (slotsOf k * n) ≤ length (now s) ⌝ }
     requires zero { ⌜ now t ≡ cleared (length (now t)) ⌝ }
-    ensures { λ r. ⌜ Stage (limitWords least greatest)
-        (recordsTaken (length (now (t .entry)) / (7 + slots)) slots n (drop at (now (s .entry)))) r (now (t .entry)) (now (t .exit)) ⌝ }
+    ensures { λ r. ⌜ Stage (rowOf k)
+        (recordsTaken (length (now (t .entry)) / widthOf k) (slotsOf k) n (drop at (now (s .entry))))
+        r (now (t .entry)) (now (t .exit)) ⌝ }
 {
-    if t.len() / (format::LIMIT_NAMED_WORDS + slots) < n {
+    if t.len() / limits::width_of(k) < n {
         return Step::Refused(Refusal::TableTooShort);
     }
-    limits::load_rows(s, at, n, least, greatest, slots, t);
+    limits::load_rows(k, s, at, n, t);
     Step::Done
 }
 
 // The n limits at a pointer: pointer 0 is no list, and a count of 0 an empty one, whatever its pointer. 10, 11, 1.
-fn read_limits(
-    sys: &[u8],
-    gfx: &[u8],
-    va: u64,
-    n: u16,
-    least: usize,
-    greatest: usize,
-    slots: usize,
-    t: &mut [u32],
-) -> Step
-    requires shape { ⌜ Shaped least greatest slots ⌝ }
-    requires zero { ⌜ now t ≡ cleared (length (now t)) ⌝ }
-    ensures { λ r. ⌜ Stage (limitWords least greatest)
-        (Definitions.limits (section (now (sys .entry)) (now (gfx .entry))) (length (now (t .entry)) / (7 + slots)) slots va n)
+fn read_limits(k: LimitKind, sys: &[u8], gfx: &[u8], va: u64, n: u16, t: &mut [u32]) -> Step
+    requires { ⌜ now t ≡ cleared (length (now t)) ⌝ }
+    ensures { λ r. ⌜ Stage (rowOf k)
+        (Definitions.limits (section (now (sys .entry)) (now (gfx .entry))) (length (now (t .entry)) / widthOf k) (slotsOf k) va n)
         r (now (t .entry)) (now (t .exit)) ⌝ }
 {
     if va == 0 {
@@ -131,9 +114,9 @@ fn read_limits(
         return Step::Done;
     }
     let count = n as usize;
-    match places::locate(sys, gfx, va, 4 * slots * count) {
-        Located::System(o) => take_limits(sys, o, count, least, greatest, slots, t),
-        Located::Graphics(o) => take_limits(gfx, o, count, least, greatest, slots, t),
+    match places::locate(sys, gfx, va, 4 * limits::slots_of(k) * count) {
+        Located::System(o) => take_limits(k, sys, o, count, t),
+        Located::Graphics(o) => take_limits(k, gfx, o, count, t),
         Located::Refused(r) => Step::Refused(r),
     }
 }
@@ -160,30 +143,26 @@ fn read_lists(
     requires translation { ⌜ now translation ≡ cleared (length (now translation)) ⌝ }
     ensures { λ r. ⌜ ReadsJoints
         (listsRead (section (now (sys .entry)) (now (gfx .entry)))
-        (length (now (rotation .entry)) / 55) (length (now (translation .entry)) / 23) h)
+        (length (now (rotation .entry)) / 49) (length (now (translation .entry)) / 16) h)
         r (now (rotation .entry)) (now (translation .entry)) (now (rotation .exit)) (now (translation .exit)) ⌝ }
 {
     let first = read_limits(
+        LimitKind::Rotation,
         sys,
         gfx,
         h.rotation,
         h.rotation_count,
-        limits::ROTATION_LEAST,
-        limits::ROTATION_GREATEST,
-        limits::ROTATION_SLOTS,
         rotation,
     );
     if let Step::Refused(r) = first {
         return JointsRead::Refused(r);
     }
     let second = read_limits(
+        LimitKind::Translation,
         sys,
         gfx,
         h.translation,
         h.translation_count,
-        limits::TRANSLATION_LEAST,
-        limits::TRANSLATION_GREATEST,
-        limits::TRANSLATION_SLOTS,
         translation,
     );
     if let Step::Refused(r) = second {

@@ -6,10 +6,11 @@ ghost use lib.ListN.{length};
 ghost use lib.Seq.{sets};
 ghost use Rattle.format.specs.Field.{wordBytes, lay};
 ghost use Rattle.format.specs.Layout as Layout;
-ghost use Rattle.format.specs.Joints.{jointsItems, jointsLayout};
+ghost use Rattle.format.specs.Joints.{idsFit, jointsItems, jointsLayout};
 ghost use Rattle.joints.specs.Written.{rotationsOf, translationsOf, tableWritten, meantWritten, leftIn, LimitsRoom};
 ghost use Rattle.tables.specs.Outcome.{sizeOf};
 use crate::limits;
+use crate::limits::LimitKind;
 use crate::words;
 use format::Refusal;
 
@@ -67,30 +68,31 @@ fn lay_section(rotation: &[u32], r: usize, translation: &[u32], t: usize, out: &
 {
     let head = header(r, t);
     words::store(&head, 0, 16, out, 0);
-    limits::store_rows(
-        rotation,
-        r,
-        limits::ROTATION_LEAST,
-        limits::ROTATION_GREATEST,
-        limits::ROTATION_SLOTS,
-        out,
-        format::JOINTS_SIZE,
-    );
+    limits::store_rows(LimitKind::Rotation, rotation, r, out, format::JOINTS_SIZE);
     let behind = format::JOINTS_SIZE + format::ROTATION_LIMIT_SIZE * r;
-    limits::store_rows(
-        translation,
-        t,
-        limits::TRANSLATION_LEAST,
-        limits::TRANSLATION_GREATEST,
-        limits::TRANSLATION_SLOTS,
-        out,
-        behind,
-    );
+    limits::store_rows(LimitKind::Translation, translation, t, out, behind);
+}
+
+// Whether each id of the first r rows fits its record.
+fn ids_fit(rotation: &[u32], r: usize) -> bool
+    requires { ⌜ 49 * r ≤ length (now rotation) ⌝ }
+    ensures { λ b. ⌜ b ≡ idsFit (rotationsOf r (now (rotation .entry))) ⌝ }
+{
+    let mut at = 0;
+    let mut i = 0;
+    while i < r {
+        if format::GREATEST_ROTATION_ID < rotation[at] {
+            return false;
+        }
+        at += format::ROTATION_LIMIT_WORDS;
+        i += 1;
+    }
+    true
 }
 
 // The section of the limits in the first r rows of one table and the first t rows of the other, at the front of `out`. The
-// refusals, in this order: 6 for more than 65,535 of either, 1 for a table with fewer rows than asked for, 5 for a buffer that
-// is too short. A refusal changes nothing, and what lies behind the section stays as it was.
+// refusals, in this order: 6 for more than 65,535 of either, 1 for a table with fewer rows than asked for, 35 for a rotation limit whose
+// id is above 65,535, 5 for a buffer that is too short. A refusal changes nothing, and what lies behind the section stays as it was.
 pub fn write(
     rotation: &[u32],
     r: usize,
@@ -115,6 +117,9 @@ pub fn write(
     }
     if translation.len() / format::TRANSLATION_LIMIT_WORDS < t {
         return JointsWritten::Refused(Refusal::TableTooShort);
+    }
+    if !ids_fit(rotation, r) {
+        return JointsWritten::Refused(Refusal::BadLimitId);
     }
     let size = format::JOINTS_SIZE
         + format::ROTATION_LIMIT_SIZE * r

@@ -1,5 +1,7 @@
 // Joints replayed (docs/FORMAT.md, "Joints and names").
 use crate::tables;
+use fields::runs;
+use joints::limits::RecordWritten;
 use joints::read::JointsRead;
 use joints::read::LimitList;
 use joints::write::JointsWritten;
@@ -109,12 +111,87 @@ pub(crate) fn write_agrees(case: &[u8], r: usize, t: usize, answer: u32) -> bool
     )
 }
 
+// ---- one record
+
+// the parts of a reading
+const RECORD: u16 = 2;
+
+const ROW: u16 = 3;
+
+pub(crate) fn rotation_read_agrees(case: &[u8]) -> bool {
+    let words = replay_sample::loaded32(replay_sample::part(case, RECORD));
+    let mut bytes = [0u8; 192];
+    runs::put_words(&mut bytes, 0, &words[0..48]);
+    let row = joints::limits::read_rotation(&bytes);
+    replay_sample::same32(&row, replay_sample::part(case, ROW))
+}
+
+pub(crate) fn translation_read_agrees(case: &[u8]) -> bool {
+    let words = replay_sample::loaded32(replay_sample::part(case, RECORD));
+    let mut bytes = [0u8; 64];
+    runs::put_words(&mut bytes, 0, &words[0..16]);
+    let row = joints::limits::read_translation(&bytes);
+    replay_sample::same32(&row, replay_sample::part(case, ROW))
+}
+
+// the parts of a writing
+const WRITTEN_ROW: u16 = 2;
+
+const BYTES: u16 = 3;
+
+fn record_written_as(w: RecordWritten, answer: u32) -> bool {
+    match w {
+        RecordWritten::Done => answer == tables::DONE,
+        RecordWritten::Refused(e) => answer == format::code(e),
+    }
+}
+
+// The writings, lent the first n bytes of a buffer.
+fn write_rotation_into(row: &[u32; 49], n: usize, out: &mut [u8]) -> RecordWritten {
+    let lent = replay_sample::within8(n, out);
+    joints::limits::write_rotation(row, &mut out[..lent])
+}
+
+fn write_translation_into(row: &[u32; 16], n: usize, out: &mut [u8]) -> RecordWritten {
+    let lent = replay_sample::within8(n, out);
+    joints::limits::write_translation(row, &mut out[..lent])
+}
+
+// All of the buffer is compared, also what is not lent.
+pub(crate) fn rotation_write_agrees(case: &[u8], n: usize, answer: u32) -> bool {
+    let words = replay_sample::loaded32(replay_sample::part(case, WRITTEN_ROW));
+    let mut row = [0u32; 49];
+    runs::copy_words(&words, 0, 49, &mut row, 0);
+    let mut out = tables::dirty8();
+    let w = write_rotation_into(&row, n, &mut out);
+    tables::all(
+        record_written_as(w, answer),
+        replay_sample::same8(&out, replay_sample::part(case, BYTES), tables::DIRT8),
+        true,
+        true,
+    )
+}
+
+pub(crate) fn translation_write_agrees(case: &[u8], n: usize, answer: u32) -> bool {
+    let words = replay_sample::loaded32(replay_sample::part(case, WRITTEN_ROW));
+    let mut row = [0u32; 16];
+    runs::copy_words(&words, 0, 16, &mut row, 0);
+    let mut out = tables::dirty8();
+    let w = write_translation_into(&row, n, &mut out);
+    tables::all(
+        record_written_as(w, answer),
+        replay_sample::same8(&out, replay_sample::part(case, BYTES), tables::DIRT8),
+        true,
+        true,
+    )
+}
+
 // ---- the fresh rotation limit
 
-// the part with its slots
-const SLOTS: u16 = 2;
+// the part with its row
+const FRESH: u16 = 2;
 
 pub(crate) fn fresh_agrees(case: &[u8]) -> bool {
-    let slots = joints::limits::fresh_rotation_limit();
-    replay_sample::same32(&slots, replay_sample::part(case, SLOTS))
+    let row = joints::limits::fresh_rotation_limit();
+    replay_sample::same32(&row, replay_sample::part(case, FRESH))
 }

@@ -82,6 +82,10 @@ fn run_agrees(operation: u32, case: &[u8], a: u64, b: u64, run: u32, answer: u32
         8 => limits::write_agrees(case, a as usize, b as usize, answer),
         9 => limits::fresh_agrees(case),
         10 => names::hash_agrees(case),
+        11 => limits::rotation_read_agrees(case),
+        12 => limits::rotation_write_agrees(case, a as usize, answer),
+        13 => limits::translation_read_agrees(case),
+        14 => limits::translation_write_agrees(case, a as usize, answer),
         _ => false,
     }
 }

@@ -2,7 +2,7 @@
 use libc::STDOUT_FILENO;
 
 // Two counts for each operation: its runs that agree, and those that differ.
-const OPERATIONS: u32 = 11;
+const OPERATIONS: u32 = 15;
 
 // how many runs agree, and how many differ
 const AGREE: usize = 30;
@@ -49,9 +49,9 @@ pub(crate) fn note(
 // The name of an operation, as wide as the widest and a space.
 fn print_name(operation: u32) {
     let names: &[u8] =
-        b"read         read full    read short   lookup       tags         indices      matrices     joints read  joints write fresh limit  hash         ";
-    let from = 13 * (operation as usize);
-    let to = from + 13;
+        b"read              read full         read short        lookup            tags              indices           matrices          joints read       joints write      fresh limit       hash              rotation read     rotation write    translation read  translation write ";
+    let from = 18 * (operation as usize);
+    let to = from + 18;
     if to <= names.len() {
         io::write_all(STDOUT_FILENO, &names[from..to]);
     }

@@ -8,7 +8,7 @@ use Rattle.format.specs.Result.{Res, refused, done, status}
 use Rattle.format.specs.Refusal.{number}
 use Rattle.format.specs.declared.Refusal.{Refusal}
 use Rattle.format.specs.Joints.{Joints, rotationRow, rotationWidth, translationRow, translationWidth, limitRows}
-use Rattle.joints.specs.Reading.{meantList, limitsIn, meantJoints}
+use Rattle.joints.specs.Reading.{whether, meantList, limitsIn, meantJoints}
 use Rattle.joints.proofs.BothKinds.{length-limitRows}
 use Rattle.joints.specs.declared.read.Joints as declared
 use Rattle.joints.specs.declared.read.JointsRead.{JointsRead}
@@ -27,6 +27,11 @@ counted-done e = ap counted e
 
 pub counted-refused : {x : Res ℕ} {n : ℕ} → refused n ≡ x → 0 ≡ counted x
 counted-refused e = ap counted e
+
+-- the status of one record written
+pub record-told : {A : Type 0} {n : ℕ} {x : Res (Unit {0})} (g : Res A) → n ≡ status x → x ≡ whether g → n ≡ status g
+record-told (refused m) e f = e ∙ ap status f
+record-told (done a) e f = e ∙ ap status f
 
 -- whether a list stands, and how many limits it has, by the number of its rows
 module _ {A : Type 0} (row : List ℕ → A) (k : ℕ) (t : List ℕ) where

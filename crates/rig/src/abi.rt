@@ -4,7 +4,7 @@ ghost use Rattle.rig.specs.Abi.{abi};
 
 // It rises with each change of an export's declaration, of the layout of a lent row or field, or of what a status means.
 // `bindings/exports` holds include/rig.h and the declarations for Rust to it.
-const ABI: u32 = 1;
+const ABI: u32 = 2;
 
 #[no_mangle]
 pub extern "C" fn rig_abi() -> u32

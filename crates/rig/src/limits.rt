@@ -3,13 +3,16 @@
 ghost use mathlib.Core.Path.{_≡_};
 ghost use lib.ListN.{length};
 ghost use Rattle.format.specs.Result.{done, status};
-ghost use Rattle.format.specs.Joints.{freshSlots};
+ghost use Rattle.format.specs.Field.{words};
+ghost use Rattle.format.specs.Joints.{rotationLimit, rotationWords, rotationRow, rotationWritten, freshRotationLimit};
+ghost use Rattle.format.specs.Joints.{translationLimit, translationWords, translationRow, translationWritten};
 ghost use Rattle.format.specs.Rows.{laid};
 ghost use Rattle.joints.specs.Reading.{meantList, tableRead, rotationTable, translationTable};
-ghost use Rattle.joints.specs.Written.{tableWritten, leftIn};
+ghost use Rattle.joints.specs.Written.{tableWritten, leftIn, meantRecordWritten};
 ghost use Rattle.tables.specs.Outcome.{sizeOf};
 ghost use Rattle.rig_answers.specs.Answer.{counted, readStatus, given, numberIf, present};
 ghost use Rattle.rig.specs.Answer.{jointsFields};
+use joints::limits::RecordWritten;
 use joints::read::JointsRead;
 use joints::read::LimitList;
 use joints::write::JointsWritten;
@@ -113,10 +116,56 @@ pub extern "C" fn rig_joints_write(
     }
 }
 
-// The slots of a fresh rotation limit.
+// ---- one record
+
+// The row of the record of a rotation limit.
 #[no_mangle]
-pub extern "C" fn rig_fresh_rotation_limit(out: &mut [u32; 48])
-    ensures slots { λ _. ⌜ now (out .exit) ≡ freshSlots ⌝ }
+pub extern "C" fn rig_rotation_limit_read(bytes: &[u8; 192], row: &mut [u32; 49])
+    ensures row { λ _. ⌜ now (row .exit) ≡ rotationWords (rotationLimit (words 4 48 (now (bytes .entry)))) ⌝ }
 {
-    *out = joints::limits::fresh_rotation_limit();
+    *row = joints::limits::read_rotation(bytes);
+}
+
+// The record of the row of a rotation limit, at the front of `out`.
+#[no_mangle]
+pub extern "C" fn rig_rotation_limit_write(row: &[u32; 49], out: &mut [u8]) -> u32
+    ensures answer { λ s. ⌜ s ≡ status (rotationWritten (length (now (out .entry))) (rotationRow (now (row .entry)))) ⌝ }
+    ensures buffer { λ _. ⌜ now (out .exit)
+        ≡ leftIn (rotationWritten (length (now (out .entry))) (rotationRow (now (row .entry)))) (now (out .entry)) ⌝ }
+{
+    record_status(joints::limits::write_rotation(row, out))
+}
+
+// The same of translation limits.
+#[no_mangle]
+pub extern "C" fn rig_translation_limit_read(bytes: &[u8; 64], row: &mut [u32; 16])
+    ensures row { λ _. ⌜ now (row .exit) ≡ translationWords (translationLimit (words 4 16 (now (bytes .entry)))) ⌝ }
+{
+    *row = joints::limits::read_translation(bytes);
+}
+
+#[no_mangle]
+pub extern "C" fn rig_translation_limit_write(row: &[u32; 16], out: &mut [u8]) -> u32
+    ensures answer { λ s. ⌜ s ≡ status (translationWritten (length (now (out .entry))) (translationRow (now (row .entry)))) ⌝ }
+    ensures buffer { λ _. ⌜ now (out .exit)
+        ≡ leftIn (translationWritten (length (now (out .entry))) (translationRow (now (row .entry)))) (now (out .entry)) ⌝ }
+{
+    record_status(joints::limits::write_translation(row, out))
+}
+
+fn record_status(w: RecordWritten) -> u32
+    ensures { λ s. ⌜ s ≡ status (meantRecordWritten w) ⌝ }
+{
+    match w {
+        RecordWritten::Done => 0,
+        RecordWritten::Refused(e) => format::code(e),
+    }
+}
+
+// The row of a fresh rotation limit.
+#[no_mangle]
+pub extern "C" fn rig_fresh_rotation_limit(row: &mut [u32; 49])
+    ensures row { λ _. ⌜ now (row .exit) ≡ rotationWords freshRotationLimit ⌝ }
+{
+    *row = joints::limits::fresh_rotation_limit();
 }

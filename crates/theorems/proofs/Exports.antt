@@ -20,7 +20,8 @@ use Rattle.format.specs.Layout.{Bytes, base}
 use Rattle.format.specs.Lookup.{lookup}
 use Rattle.format.specs.Check.{check}
 use Rattle.format.specs.CallRefusals.{derivingRefusals, writingRefusals, readingRefusals, checkRefusals, lookupRefusals}
-use Rattle.format.specs.CallRefusals.{jointsReadRefusals, jointsWrittenRefusals, oneOf, RefusesOnly}
+use Rattle.format.specs.CallRefusals.{jointsReadRefusals, jointsWrittenRefusals, rotationWrittenRefusals}
+use Rattle.format.specs.CallRefusals.{translationWrittenRefusals, oneOf, RefusesOnly}
 use Rattle.format.proofs.CallRefusals.{call-refusals}
 use Rattle.format.specs.declared.Words4.{Words4}
 use Rattle.promises.specs.Meaning.{Sized, Sound, IsGreatest, Right, Fits4}
@@ -104,6 +105,8 @@ statuses =
           λ size rotation n translation m r e.
           told-sure jointsWrittenRefusals tt tt _ r (e ∙ size-status (tableWritten size rotation n translation m))
           (joints-written-only size rotation n translation m);
+      rotationWriting = λ size row r e. told-sure rotationWrittenRefusals tt tt _ r e (call-refusals .rotationWritten size _);
+      translationWriting = λ size row r e. told-sure translationWrittenRefusals tt tt _ r e (call-refusals .translationWritten size _);
     }
 
 -- ---- Exact

@@ -14,11 +14,12 @@ use Rattle.format.specs.Tables.{SkeletonRow, noRows}
 use Rattle.format.specs.Deriving.{DeriveRoom}
 use Rattle.format.specs.Read.{Step}
 use Rattle.format.specs.CallRefusals.{derivingRefusals, writingRefusals, readingRefusals, jointsWrittenRefusals, RefusesOnly}
-use Rattle.format.specs.Joints.{rotationWidth, translationWidth}
+use Rattle.format.specs.Joints.{rotationWidth, rotationRow, rotationWritten, translationWidth, translationRow, translationWritten}
 use Rattle.format.proofs.CallRefusals.{only-done, only-refused, only-then, only-need, call-refusals}
 use Rattle.tables.specs.Outcome.{derived, sizeOf}
 use Rattle.read.specs.Reads.{answerOf}
 use Rattle.write.specs.Outcome.{outcome}
+use Rattle.joints.specs.Reading.{whether}
 use Rattle.joints.specs.Written.{rotationsOf, translationsOf, tableWritten}
 use Rattle.theorems.specs.Refusals.{Refusals}
 
@@ -60,6 +61,10 @@ joints-written-only size rotation r translation t =
     only-then (only-need 1 (leb (translationWidth * t) (length translation)) tt) λ y.
     call-refusals .jointsWritten size (rotationsOf r rotation) (translationsOf t translation)
 
+whether-only : {A : Type 0} {ns : List ℕ} (g : Res A) → RefusesOnly ns g → RefusesOnly ns (whether g)
+whether-only (refused c) h = only-refused c (h .only c refl)
+whether-only (done a) h = only-done tt
+
 -- ---- the statement
 
 pub refusals : Refusals
@@ -80,4 +85,9 @@ refusals =
           answers-only e (call-refusals .jointsRead _ _ _ root);
       jointsWriting =
           λ size rotation r translation t w e. answers-only e (size-only _ (joints-written-only size rotation r translation t));
+      rotationWriting =
+          λ size row w e. answers-only e (whether-only (rotationWritten size (rotationRow row)) (call-refusals .rotationWritten size _));
+      translationWriting =
+          λ size row w e.
+          answers-only e (whether-only (translationWritten size (translationRow row)) (call-refusals .translationWritten size _));
     }

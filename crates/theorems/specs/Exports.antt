@@ -16,8 +16,10 @@ use Rattle.format.specs.Layout.{base}
 use Rattle.format.specs.Lookup.{lookup}
 use Rattle.format.specs.Search.{search}
 use Rattle.format.specs.Check.{check}
+use Rattle.format.specs.Joints.{rotationRow, rotationWritten, translationRow, translationWritten}
 use Rattle.format.specs.CallRefusals.{derivingRefusals, writingRefusals, readingRefusals, checkRefusals, lookupRefusals}
-use Rattle.format.specs.CallRefusals.{jointsReadRefusals, jointsWrittenRefusals}
+use Rattle.format.specs.CallRefusals.{jointsReadRefusals, jointsWrittenRefusals, rotationWrittenRefusals}
+use Rattle.format.specs.CallRefusals.{translationWrittenRefusals}
 use Rattle.promises.specs.Meaning.{Sized, Sound, IsGreatest, NoneBears, Fits4}
 use Rattle.tables.specs.Front.{frontOf}
 use Rattle.tables.specs.Outcome.{sizeOf}
@@ -83,6 +85,13 @@ pub record ExportStatuses : Type 0 where
       (size : ℕ) (rotation : List ℕ) (n : ℕ) (translation : List ℕ) (m r : ℕ) →
       r ≡ status (sizeOf (tableWritten size rotation n translation m)) →
       Tells jointsWrittenRefusals (sure (tableWritten size rotation n translation m)) r
+  -- `rig_rotation_limit_write`, `rig_translation_limit_write`
+  pub rotationWriting :
+      (size : ℕ) (row : List ℕ) (r : ℕ) → r ≡ status (rotationWritten size (rotationRow row)) →
+      Tells rotationWrittenRefusals (sure (rotationWritten size (rotationRow row))) r
+  pub translationWriting :
+      (size : ℕ) (row : List ℕ) (r : ℕ) → r ≡ status (translationWritten size (translationRow row)) →
+      Tells translationWrittenRefusals (sure (translationWritten size (translationRow row))) r
 
 -- ---- demand 3
 

@@ -11,8 +11,10 @@ use Rattle.format.specs.Deriving.{DeriveRoom}
 use Rattle.format.specs.Read.{readSkeleton}
 use Rattle.format.specs.Search.{search}
 use Rattle.format.specs.Lookup.{lookup}
+use Rattle.format.specs.Joints.{rotationRow, rotationWritten, translationRow, translationWritten}
 use Rattle.format.specs.CallRefusals.{derivingRefusals, writingRefusals, readingRefusals, checkRefusals, lookupRefusals}
-use Rattle.format.specs.CallRefusals.{jointsReadRefusals, jointsWrittenRefusals, RefusesOnly}
+use Rattle.format.specs.CallRefusals.{jointsReadRefusals, jointsWrittenRefusals, rotationWrittenRefusals}
+use Rattle.format.specs.CallRefusals.{translationWrittenRefusals, RefusesOnly}
 use Rattle.tables.specs.Outcome.{sizeOf}
 use Rattle.tables.specs.Working.{Working}
 use Rattle.derive_chains.specs.Tagging.{tagsResult, taggedOf}
@@ -34,9 +36,10 @@ use Rattle.check_steps.specs.declared.Checked.{Checked}
 use Rattle.verify.specs.Checks.{Checks}
 use Rattle.write.specs.Outcome.{outcome, writtenOf, Writes}
 use Rattle.write.specs.declared.Written.{Written}
-use Rattle.joints.specs.Reading.{tableRead, meantJoints}
+use Rattle.joints.specs.Reading.{tableRead, meantJoints, whether}
 use Rattle.joints.specs.declared.read.JointsRead.{JointsRead}
-use Rattle.joints.specs.Written.{tableWritten, meantWritten}
+use Rattle.joints.specs.Written.{tableWritten, meantWritten, meantRecordWritten}
+use Rattle.joints.specs.declared.limits.RecordWritten.{RecordWritten}
 use Rattle.joints.specs.declared.write.JointsWritten.{JointsWritten}
 
 pub record Refusals : Type 0 where
@@ -71,3 +74,9 @@ pub record Refusals : Type 0 where
   pub jointsWriting :
       (size : ℕ) (rotation : List ℕ) (r : ℕ) (translation : List ℕ) (t : ℕ) (w : JointsWritten) →
       meantWritten w ≡ sizeOf (tableWritten size rotation r translation t) → RefusesOnly jointsWrittenRefusals (meantWritten w)
+  pub rotationWriting :
+      (size : ℕ) (row : List ℕ) (w : RecordWritten) → meantRecordWritten w ≡ whether (rotationWritten size (rotationRow row)) →
+      RefusesOnly rotationWrittenRefusals (meantRecordWritten w)
+  pub translationWriting :
+      (size : ℕ) (row : List ℕ) (w : RecordWritten) → meantRecordWritten w ≡ whether (translationWritten size (translationRow row)) →
+      RefusesOnly translationWrittenRefusals (meantRecordWritten w)

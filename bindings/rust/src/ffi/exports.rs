@@ -98,7 +98,11 @@ extern "C" {
         out_len: usize,
         count: *mut usize,
     ) -> u32;
-    pub fn rig_fresh_rotation_limit(out: *mut [u32; 48]);
+    pub fn rig_rotation_limit_read(bytes: *const [u8; 192], row: *mut [u32; 49]);
+    pub fn rig_rotation_limit_write(row: *const [u32; 49], out: *mut u8, out_len: usize) -> u32;
+    pub fn rig_translation_limit_read(bytes: *const [u8; 64], row: *mut [u32; 16]);
+    pub fn rig_translation_limit_write(row: *const [u32; 16], out: *mut u8, out_len: usize) -> u32;
+    pub fn rig_fresh_rotation_limit(row: *mut [u32; 49]);
     pub fn rig_rage_joaat(s: *const u8, s_len: usize) -> u32;
     pub fn rig_search(
         sys: *const u8,
@@ -198,4 +202,4 @@ extern "C" {
 
 /// The number of these exports: what `rig_abi` of a library that has them answers.
 #[allow(dead_code)]
-pub const RIG_ABI: u32 = 1;
+pub const RIG_ABI: u32 = 2;

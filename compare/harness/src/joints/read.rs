@@ -42,6 +42,13 @@ pub struct ReadAnswer {
     intact: bool,
 }
 
+impl ReadAnswer {
+    /// How many limits of each kind were read.
+    pub fn limits(&self) -> [u64; 2] {
+        [self.fields[4], self.fields[6]].map(u64::from)
+    }
+}
+
 /// Makes the call on dirty tables between guards.
 pub fn ours(library: &dyn Joints, i: &ReadInput) -> ReadAnswer {
     let (s, mut rng, mut intact) = (&i.section, Rng::new(i.dirt), true);

@@ -54,8 +54,8 @@ impl Input for WriteInput {
 #[derive(Debug, PartialEq, Eq)]
 pub struct WriteAnswer {
     pub status: u32,
-    count: usize,
-    out: Vec<u8>,
+    pub count: usize,
+    pub out: Vec<u8>,
     /// Both tables and the guards are as they were.
     intact: bool,
 }
@@ -81,7 +81,7 @@ pub fn ours(library: &dyn Joints, i: &WriteInput) -> WriteAnswer {
 }
 
 /// The published section at the front of the buffer, which is else as it was: 6, then 1 for a table with fewer
-/// rows than asked for, then 5.
+/// rows than asked for, then 35 for an id that no record of a rotation limit has room for, then 5.
 pub fn rust(i: &WriteInput) -> WriteAnswer {
     let mut out = i.dirty();
     let (status, count) = match section(i) {
@@ -95,13 +95,16 @@ pub fn rust(i: &WriteInput) -> WriteAnswer {
     WriteAnswer { status, count, out, intact: true }
 }
 
-/// The published section of the limits asked for; where the tables lack some, 6 by the numbers, else 1.
+/// The published section of the limits asked for; where the tables lack some, or the Rust has no such limit, 6 by the numbers,
+/// else 1 or 35.
 fn section(i: &WriteInput) -> Result<Vec<u8>, u32> {
     let (rotations, translations) = (i.rotation.chunks_exact(rows::ROTATION), i.translation.chunks_exact(rows::TRANSLATION));
+    let six_or = |number: u32| if i.r.max(i.t) > 65_535 { 6 } else { number };
     if rotations.len() < i.r || translations.len() < i.t {
-        return Err(if i.r.max(i.t) > 65_535 { 6 } else { 1 });
+        return Err(six_or(1));
     }
-    let rotations: Vec<RotationLimit> = rotations.take(i.r).map(rows::rotation_limit).collect();
+    let rotations: Option<Vec<RotationLimit>> = rotations.take(i.r).map(rows::rotation_limit).collect();
+    let Some(rotations) = rotations else { return Err(six_or(35)) };
     let translations: Vec<TranslationLimit> = translations.take(i.t).map(rows::translation_limit).collect();
     match joints_write(&rotations, &translations) {
         Written::Section(bytes) => Ok(bytes),

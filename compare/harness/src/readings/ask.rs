@@ -2,6 +2,7 @@
 
 use crate::checks::check::CheckInput;
 use crate::derived::input::{Call, DeriveInput};
+use crate::joints::limit::{self, Kind, RecordInput, RowInput};
 use crate::skeletons::read::{Asked, ReadInput};
 use crate::skeletons::write::WriteInput;
 use crate::{checks, derived, joints, skeletons};
@@ -150,13 +151,35 @@ pub fn joints_write(rotations: &[RotationLimit], translations: &[TranslationLimi
         out: if let Written::Section(bytes) = &written { bytes.len() } else { 0 },
         dirt: DIRT,
     };
-    beside(link::joints(), |l| joints::write::ours(l, &input), || joints::write::rust(&input));
+    joints_status(&input);
     written
 }
 
+/// The status of writing joints with what is lent.
+pub fn joints_status(input: &joints::write::WriteInput) -> u32 {
+    let wanted = || joints::write::rust(input);
+    beside(link::joints(), |l| joints::write::ours(l, input), wanted);
+    wanted().status
+}
+
+/// The row of a record.
+pub fn limit_read(kind: Kind, record: &[u8]) -> Vec<u32> {
+    let input = RecordInput { kind, record: record.to_vec(), dirt: DIRT };
+    beside(link::joints(), |l| limit::read(l, &input), || limit::rust_read(&input));
+    kind.row(record)
+}
+
+/// The status of writing a row into so many bytes, and these.
+pub fn limit_write(kind: Kind, row: &[u32], out: usize) -> (u32, Vec<u8>) {
+    let input = RowInput { kind, row: row.to_vec(), out, dirt: DIRT };
+    beside(link::joints(), |l| limit::write(l, &input), || limit::rust_write(&input));
+    let written = limit::rust_write(&input);
+    (written.status, written.out)
+}
+
 pub fn fresh_rotation_limit() -> RotationLimit {
-    let (fresh, mut slots) = (oracle::fresh_rotation_limit(), [1; 48]);
-    beside(link::joints(), |l| (l.fresh_rotation_limit(&mut slots), slots).1, || fresh.other);
+    let (fresh, mut row) = (oracle::fresh_rotation_limit(), [1; rows::ROTATION]);
+    beside(link::joints(), |l| (l.fresh_rotation_limit(&mut row), row).1, || rows::rotation(&fresh));
     fresh
 }
 

@@ -1,9 +1,10 @@
 //! Joints by the published code, with a fault.
 
+use super::limit;
 use cases::records::joints as j;
 use cases::rows;
-use link::{JointFields, Joints, DONE, NONE};
-use oracle::{fresh_rotation_limit, joints_read, joints_write, JointsAnswer};
+use link::{JointFields, Joints, RotationRecord, RotationRow, TranslationRecord, TranslationRow, DONE, NONE};
+use oracle::{fresh_rotation_limit, joints_read, joints_write, JointsAnswer, RotationLimit};
 
 pub struct Faulty(pub Option<Fault>);
 
@@ -23,8 +24,8 @@ pub enum Fault {
     RefusalKind,
     /// Root 0 is done.
     RootZero,
-    /// The other words win over the named fields.
-    SlotsWin,
+    /// The second number stands behind the id too.
+    SecondInId,
     /// The buffer is zero behind the section.
     ZeroBehind,
     /// 65,536 limits are too few rows.
@@ -33,12 +34,40 @@ pub enum Fault {
     BufferFirst,
     /// The number of bytes stands after a refusal.
     RefusalCount,
+    /// An id is cut to 16 bits.
+    IdCut,
+    /// 35 for a translation limit's id.
+    WideTranslation,
+    /// 5 before 35.
+    WideAfterBuffer,
+    /// 35 before 6.
+    WideBeforeSix,
+    /// 35 before 1.
+    WideBeforeRows,
+    /// 35 for an id behind the rows asked for.
+    WideBehind,
+    /// The joints' record is written before 35.
+    WideLate,
+    /// The second number is not written.
+    SecondLost,
+    /// The upper half of the second number's word is written into the slot behind.
+    UpperHalf,
+    /// A slot that belongs to no field is not written.
+    SlotNotWritten,
     /// A word of the fresh limit.
     FreshWord,
+    /// The fresh limit has a named slot among the others.
+    FreshNamed,
+    /// A fault of one limit's calls.
+    One(limit::Fault),
 }
 use Fault::*;
 
-pub const FAULTS: [Fault; 13] = [
+pub fn faults() -> Vec<Fault> {
+    LISTS.into_iter().chain(limit::FAULTS.map(One)).collect()
+}
+
+const LISTS: [Fault; 24] = [
     SlotLost,
     AlwaysStands,
     StoredCount,
@@ -46,17 +75,55 @@ pub const FAULTS: [Fault; 13] = [
     RefusalDirty,
     RefusalKind,
     RootZero,
-    SlotsWin,
+    SecondInId,
     ZeroBehind,
     SixForgotten,
     BufferFirst,
     RefusalCount,
+    IdCut,
+    WideTranslation,
+    WideAfterBuffer,
+    WideBeforeSix,
+    WideBeforeRows,
+    WideBehind,
+    WideLate,
+    SecondLost,
+    UpperHalf,
+    SlotNotWritten,
     FreshWord,
+    FreshNamed,
 ];
 
 impl Faulty {
     fn is(&self, fault: Fault) -> bool {
         self.0 == Some(fault)
+    }
+
+    /// The fault of one limit's calls.
+    fn one(&self) -> Option<limit::Fault> {
+        match self.0 {
+            Some(One(fault)) => Some(fault),
+            _ => None,
+        }
+    }
+
+    /// Whether an id is refused: one that is too wide, of the limits asked for.
+    fn wide(&self, rotation: &[u32], r: usize, translation: &[u32], t: usize) -> bool {
+        let wide = |rows: &[u32], width: usize, n: usize| rows.chunks_exact(width).take(n).any(|row| row[0] > 65_535);
+        let r = r.saturating_add(self.is(WideBehind) as usize);
+        let rotations = wide(rotation, rows::ROTATION, r) && !self.is(IdCut);
+        rotations || self.is(WideTranslation) && wide(translation, rows::TRANSLATION, t)
+    }
+
+    /// The limit of a row that is written.
+    fn limit(&self, row: &[u32]) -> RotationLimit {
+        let mut row = row.to_vec();
+        row[0] &= if self.is(IdCut) { 0xFFFF } else { u32::MAX };
+        let (second, slot3) = (rows::ROTATION - 1, 9);
+        row[slot3] |= if self.is(UpperHalf) { row[second] >> 16 } else { 0 };
+        row[slot3] &= if self.is(SlotNotWritten) { 0 } else { u32::MAX };
+        row[second] &= if self.is(SecondLost) { 0 } else { u32::MAX };
+        rows::rotation_limit(&row).expect("an id that is not refused")
     }
 
     /// The fields and the words of both lists, or a status.
@@ -81,7 +148,10 @@ impl Faulty {
             }
             if lists == 2 {
                 let fields = [read.kind, counts[0], counts[1], stands[0], limits[0], stands[1], limits[1]];
-                let rotation = rotations.iter().flat_map(rows::rotation).collect();
+                let mut rotation: Vec<u32> = rotations.iter().flat_map(rows::rotation).collect();
+                if self.is(SecondInId) {
+                    rotation.chunks_exact_mut(rows::ROTATION).for_each(|row| row[0] |= row[rows::ROTATION - 1] << 16);
+                }
                 return Ok((fields, [rotation, translations.iter().flat_map(rows::translation).collect()]));
             }
         }
@@ -123,8 +193,15 @@ impl Joints for Faulty {
         *count = if self.is(RefusalCount) { j::SIZE } else { 0 };
         let size =
             r.saturating_mul(j::ROTATION_LIMIT).saturating_add(t.saturating_mul(j::TRANSLATION_LIMIT)).saturating_add(j::SIZE);
+        let wide = self.wide(rotation, r, translation, t);
+        if wide && self.is(WideBeforeSix) {
+            return 35;
+        }
         if r.max(t) > 65_535 && !self.is(SixForgotten) {
             return 6;
+        }
+        if wide && self.is(WideBeforeRows) {
+            return 35;
         }
         if self.is(BufferFirst) && out.len() < size {
             return 5;
@@ -133,26 +210,46 @@ impl Joints for Faulty {
         if rotations.len() < r || translations.len() < t {
             return 1;
         }
+        if wide && !(self.is(WideAfterBuffer) && out.len() < size) {
+            out.iter_mut().take(j::SIZE).filter(|_| self.is(WideLate)).for_each(|byte| *byte = 0);
+            return 35;
+        }
         if out.len() < size {
             return 5;
         }
-        let rotations: Vec<_> = rotations.take(r).map(rows::rotation_limit).collect();
+        let rotations: Vec<_> = rotations.take(r).map(|row| self.limit(row)).collect();
         let translations: Vec<_> = translations.take(t).map(rows::translation_limit).collect();
         let bytes = joints_write(&rotations, &translations).section();
         if self.is(ZeroBehind) {
             out.fill(0);
         }
         out[..bytes.len()].copy_from_slice(&bytes);
-        if let (true, Some(l)) = (self.is(SlotsWin), translations.first()) {
-            let id = j::SIZE + j::ROTATION_LIMIT * r + 8;
-            out[id..id + 4].copy_from_slice(&l.other[2].to_le_bytes());
-        }
         *count = bytes.len();
         DONE
     }
 
-    fn fresh_rotation_limit(&self, out: &mut [u32; 48]) {
-        *out = fresh_rotation_limit().other;
-        out[47] ^= self.is(FreshWord) as u32;
+    fn fresh_rotation_limit(&self, row: &mut RotationRow) {
+        let fresh = fresh_rotation_limit();
+        *row = rows::rotation(&fresh);
+        row[rows::ROTATION - 2] ^= self.is(FreshWord) as u32;
+        if self.is(FreshNamed) {
+            row[7..rows::ROTATION - 1].copy_from_slice(&fresh.other[..rows::ROTATION - 8]);
+        }
+    }
+
+    fn rotation_limit_read(&self, record: &RotationRecord, row: &mut RotationRow) {
+        *row = limit::rotation_row(self.one(), record);
+    }
+
+    fn rotation_limit_write(&self, row: &RotationRow, out: &mut [u8]) -> u32 {
+        limit::rotation_write(self.one(), row, out)
+    }
+
+    fn translation_limit_read(&self, record: &TranslationRecord, row: &mut TranslationRow) {
+        *row = limit::translation_row(self.one(), record);
+    }
+
+    fn translation_limit_write(&self, row: &TranslationRow, out: &mut [u8]) -> u32 {
+        limit::translation_write(self.one(), row, out)
     }
 }

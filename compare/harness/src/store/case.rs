@@ -14,12 +14,31 @@ pub enum Operation {
     JointsWrite = 8,
     FreshLimit = 9,
     Hash = 10,
+    RotationRead = 11,
+    RotationWrite = 12,
+    TranslationRead = 13,
+    TranslationWrite = 14,
 }
 use Operation::*;
 
 impl Operation {
-    pub const ALL: [Operation; 11] =
-        [Read, ReadFull, ReadShort, Lookup, Tags, Indices, Matrices, JointsRead, JointsWrite, FreshLimit, Hash];
+    pub const ALL: [Operation; 15] = [
+        Read,
+        ReadFull,
+        ReadShort,
+        Lookup,
+        Tags,
+        Indices,
+        Matrices,
+        JointsRead,
+        JointsWrite,
+        FreshLimit,
+        Hash,
+        RotationRead,
+        RotationWrite,
+        TranslationRead,
+        TranslationWrite,
+    ];
 
     pub fn name(self) -> &'static str {
         match self {
@@ -34,6 +53,10 @@ impl Operation {
             JointsWrite => "joints write",
             FreshLimit => "fresh limit",
             Hash => "hash",
+            RotationRead => "rotation limit read",
+            RotationWrite => "rotation limit write",
+            TranslationRead => "translation limit read",
+            TranslationWrite => "translation limit write",
         }
     }
 }

@@ -51,6 +51,8 @@ fn changes(operation: Operation) -> Vec<Change> {
         JointsWrite => vec![Answer(Done), Answer(Refused), Byte(4), Longer(4, DIRT)],
         FreshLimit => vec![Byte(2)],
         Hash => vec![Byte(3)],
+        RotationRead | TranslationRead => vec![Byte(3)],
+        RotationWrite | TranslationWrite => vec![Answer(Done), Answer(Refused), Byte(3)],
     }
 }
 

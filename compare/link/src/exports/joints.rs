@@ -1,7 +1,7 @@
 //! Joints.
 
 use super::{declared::*, Rig};
-use crate::{JointFields, Joints};
+use crate::{JointFields, Joints, RotationRecord, RotationRow, TranslationRecord, TranslationRow};
 
 impl Joints for Rig {
     fn joints_read(
@@ -45,7 +45,23 @@ impl Joints for Rig {
         }
     }
 
-    fn fresh_rotation_limit(&self, out: &mut [u32; 48]) {
-        unsafe { rig_fresh_rotation_limit(out) }
+    fn fresh_rotation_limit(&self, row: &mut RotationRow) {
+        unsafe { rig_fresh_rotation_limit(row) }
+    }
+
+    fn rotation_limit_read(&self, record: &RotationRecord, row: &mut RotationRow) {
+        unsafe { rig_rotation_limit_read(record, row) }
+    }
+
+    fn rotation_limit_write(&self, row: &RotationRow, out: &mut [u8]) -> u32 {
+        unsafe { rig_rotation_limit_write(row, out.as_mut_ptr(), out.len()) }
+    }
+
+    fn translation_limit_read(&self, record: &TranslationRecord, row: &mut TranslationRow) {
+        unsafe { rig_translation_limit_read(record, row) }
+    }
+
+    fn translation_limit_write(&self, row: &TranslationRow, out: &mut [u8]) -> u32 {
+        unsafe { rig_translation_limit_write(row, out.as_mut_ptr(), out.len()) }
     }
 }

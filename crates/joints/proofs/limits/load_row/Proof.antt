@@ -1,75 +1,100 @@
--- `joints::limits::load_row` meets its contract: four runs of words are the row of the record. Assumes nothing.
+-- `joints::limits::load_row` meets its contract: each kind by its own function, lent just its bytes. Assumes nothing.
 use borrow.Author.Needs.{needs}
+use mathlib.Core.Path.{ap, _∙_}
+use mathlib.Core.List.{List}
+use Prim.Native.Nat.{ℕ}
+use native.Mathlib.Omega.{arith}
 use denote.Ref.{now}
-use Rattle.joints.proofs.Row.{load-row}
+use lib.Seq.{sets}
+use Rattle.format.specs.Joints.{rotationLimit, rotationWords, translationLimit, translationWords}
+use Rattle.fields.proofs.WordLists.{words-cut}
+use Rattle.joints.proofs.Row.{lent-size}
 use Rattle.joints.proofs.limits.load_row.Statement.{statement}
 use Rattle.joints.proofs.limits.load_row.Tie as tie
 
-add-load : tie.Need-add-load
-add-load c = search needs
+enum-told : tie.Need-enum-told
+enum-told c = search needs
 
-load-requires : tie.Need-load-requires
-load-requires c κs = search needs
+add-e : tie.Need-add-e
+add-e c = search needs
 
-mul-load : tie.Need-mul-load
-mul-load c = search needs
+sub-load-rotation : tie.Need-sub-load-rotation
+sub-load-rotation c = search needs
 
-add-load-2 : tie.Need-add-load-2
-add-load-2 c = search needs
+part-load-rotation-start : tie.Need-part-load-rotation-start
+part-load-rotation-start c = search needs
 
-add-load-3 : tie.Need-add-load-3
-add-load-3 c = search needs
+part-load-rotation-end : tie.Need-part-load-rotation-end
+part-load-rotation-end c =
+    let p = rw (c .enum-told .given .1) at (c .before .before .before .before .pre) in
+    omega (arith, p .0)
 
-load-requires-2 : tie.Need-load-requires-2
-load-requires-2 c κs = search needs
+load-rotation-requires : tie.Need-load-rotation-requires
+load-rotation-requires c κs =
+    let p = rw (c .before .before .enum-told .given .1) at (c .before .before .before .before .before .before .pre) in
+    let a = c .before .before .before .before .before .before .args in
+    (lent-size 192 (a .from) (now (a .s)) (p .0), p .1)
 
-mul-load-2 : tie.Need-mul-load-2
-mul-load-2 c = search needs
+enum-told-2 : tie.Need-enum-told-2
+enum-told-2 c = search needs
 
-add-load-4 : tie.Need-add-load-4
-add-load-4 c = search needs
+add-e-2 : tie.Need-add-e-2
+add-e-2 c = search needs
 
-add-load-5 : tie.Need-add-load-5
-add-load-5 c = search needs
+sub-load-translation : tie.Need-sub-load-translation
+sub-load-translation c = search needs
 
-load-requires-3 : tie.Need-load-requires-3
-load-requires-3 c κs = search needs
+part-load-translation-start : tie.Need-part-load-translation-start
+part-load-translation-start c = search needs
 
-add-load-6 : tie.Need-add-load-6
-add-load-6 c = search needs
+part-load-translation-end : tie.Need-part-load-translation-end
+part-load-translation-end c =
+    let p = rw (c .enum-told2 .given .1) at (c .before .before .before .before .pre) in
+    omega (arith, p .0)
 
-load-requires-4 : tie.Need-load-requires-4
-load-requires-4 c κs = search needs
+load-translation-requires : tie.Need-load-translation-requires
+load-translation-requires c κs =
+    let p = rw (c .before .before .enum-told2 .given .1) at (c .before .before .before .before .before .before .pre) in
+    let a = c .before .before .before .before .before .before .args in
+    (lent-size 64 (a .from) (now (a .s)) (p .0), p .1)
 
 same-length : tie.Need-same-length
 same-length c = search needs
 
 returns : tie.Need-returns
 returns c =
-    let e₄ = c .before .before in
-    let e₃ = e₄ .before .before .before .before in
-    let e₂ = e₃ .before .before .before .before in
-    let e₁ = e₂ .before .before .before .before in
-    let k = e₁ .before .before .before .before in
-    let a = k .args in
-    load-row (a .least) (a .greatest) (a .slots) (k .pre .0) (now (a .s)) (a .from) (now (a .t)) (a .to)
-    (e₁ .load .ensures) (e₂ .load2 .ensures) (e₃ .load3 .ensures) (e₄ .load4 .ensures)
+    let a = c .before .before .before .before .before .before .before .before .before .args in
+    let w = words-cut 4 48 (now (a .s)) (a .from) in
+    rw (c .before .before .before .before .before .enum-told .given .1)
+    (c .before .before .load-rotation .ensures ∙ ap (λ (x : List ℕ). sets (now (a .t)) (a .to) (rotationWords (rotationLimit x))) w)
+
+same-length-2 : tie.Need-same-length-2
+same-length-2 c = search needs
+
+returns-2 : tie.Need-returns-2
+returns-2 c =
+    let a = c .before .before .before .before .before .before .before .before .before .args in
+    let w = words-cut 4 16 (now (a .s)) (a .from) in
+    rw (c .before .before .before .before .before .enum-told2 .given .1)
+    (c .before .before .load-translation .ensures ∙ ap (λ (x : List ℕ). sets (now (a .t)) (a .to) (translationWords (translationLimit x))) w)
 
 pub load-row-spec : {M : Type 1} → statement M
 load-row-spec =
     tie.close
     (tie.spec
-    add-load
-    load-requires
-    mul-load
-    add-load-2
-    add-load-3
-    load-requires-2
-    mul-load-2
-    add-load-4
-    add-load-5
-    load-requires-3
-    add-load-6
-    load-requires-4
+    enum-told
+    add-e
+    sub-load-rotation
+    part-load-rotation-start
+    part-load-rotation-end
+    load-rotation-requires
+    enum-told-2
+    add-e-2
+    sub-load-translation
+    part-load-translation-start
+    part-load-translation-end
+    load-translation-requires
     same-length
-    returns)
+    returns
+    same-length-2
+    returns-2)

@@ -8,45 +8,51 @@ use Rattle.joints.proofs.limits.load_rows.Statement.{statement}
 use Rattle.joints.proofs.limits.load_rows.Tie as tie
 
 abbrev Inv-loop : tie.InvT-loop
-Inv-loop s at n least greatest slots t₀ from₀ to₀ i₀ t from to i = Rows least greatest slots s at n t₀ t from to i
+Inv-loop k s at n t₀ slots width from₀ to₀ i₀ t from to i = Rows k s at n t₀ t from to i
 
 abbrev μ-loop : tie.MeasureT-loop
-μ-loop s at n least greatest slots t₀ from₀ to₀ i₀ t from to i = n - i
+μ-loop k s at n t₀ slots width from₀ to₀ i₀ t from to i = n - i
+
+slots-of-requires : tie.Need-slots-of-requires Inv-loop μ-loop
+slots-of-requires c κs = search needs
+
+width-of-requires : tie.Need-width-of-requires Inv-loop μ-loop
+width-of-requires c κs = search needs
 
 loop-holds : tie.Need-loop-holds Inv-loop μ-loop
 loop-holds c =
-    let k = c .before .before in
-    rows-none _ _ _ _ _ _ (now (k .args .t)) (k .pre .1 .1)
+    let k = c .before .before .before .before in
+    rows-none _ _ _ _ (now (k .args .t)) (k .pre .1)
 
 load-row-requires : tie.Need-load-row-requires Inv-loop μ-loop
 load-row-requires c κs =
     let l = c .before .before in
-    let p = l .before .before .before .pre in
-    (p .0, rows-here (l .loop .inv) (c .before .loop-test .taken) (p .1 .0 .0) (p .1 .0 .1))
+    let p = l .before .before .before .before .before .pre in
+    rows-here (l .loop .inv) (c .before .loop-test .taken) (p .0 .0) (p .0 .1)
 
 mul-from : tie.Need-mul-from Inv-loop μ-loop
 mul-from c =
     let l = c .before .before .before .before .before in
-    let p = l .before .before .before .pre in
-    omega (arith, p .0, rows-here (l .loop .inv) (c .before .before .before .before .loop-test .taken) (p .1 .0 .0) (p .1 .0 .1))
+    let q = l .before in
+    let p = l .before .before .before .before .before .pre in
+    let h = rows-here (l .loop .inv) (c .before .before .before .before .loop-test .taken) (p .0 .0) (p .0 .1) in
+    omega (arith, q .width-of .ensures, q .before .slots-of .ensures, h)
 
 add-from : tie.Need-add-from Inv-loop μ-loop
 add-from c =
     let l = c .before .before .before .before .before in
-    let p = l .before .before .before .pre in
-    omega (arith, p .0, rows-here (l .loop .inv) (c .before .before .before .before .loop-test .taken) (p .1 .0 .0) (p .1 .0 .1))
+    let q = l .before in
+    let p = l .before .before .before .before .before .pre in
+    let h = rows-here (l .loop .inv) (c .before .before .before .before .loop-test .taken) (p .0 .0) (p .0 .1) in
+    omega (arith, q .width-of .ensures, q .before .slots-of .ensures, h)
 
 add-to : tie.Need-add-to Inv-loop μ-loop
 add-to c =
     let l = c .before .before .before .before .before in
-    let p = l .before .before .before .pre in
-    omega (arith, p .0, rows-here (l .loop .inv) (c .before .before .before .before .loop-test .taken) (p .1 .0 .0) (p .1 .0 .1))
-
-add-to-2 : tie.Need-add-to-2 Inv-loop μ-loop
-add-to-2 c =
-    let l = c .before .before .before .before .before in
-    let p = l .before .before .before .pre in
-    omega (arith, p .0, rows-here (l .loop .inv) (c .before .before .before .before .loop-test .taken) (p .1 .0 .0) (p .1 .0 .1))
+    let q = l .before in
+    let p = l .before .before .before .before .before .pre in
+    let h = rows-here (l .loop .inv) (c .before .before .before .before .loop-test .taken) (p .0 .0) (p .0 .1) in
+    omega (arith, q .width-of .ensures, q .before .slots-of .ensures, h)
 
 add-i : tie.Need-add-i Inv-loop μ-loop
 add-i c = search needs
@@ -57,9 +63,10 @@ loop-less c = search needs
 loop-again : tie.Need-loop-again Inv-loop μ-loop
 loop-again c =
     let l = c .before .before .before .before .before in
-    let p = l .before .before .before .pre in
-    rows-more (l .loop .inv) (c .before .before .before .before .loop-test .taken) (p .1 .0 .1)
-    (c .before .before .load-row .ensures)
+    let q = l .before in
+    let p = l .before .before .before .before .before .pre in
+    rw (q .width-of .ensures, q .before .slots-of .ensures)
+    (rows-more (l .loop .inv) (c .before .before .before .before .loop-test .taken) (p .0 .1) (c .before .before .load-row .ensures))
 
 same-length : tie.Need-same-length Inv-loop μ-loop
 same-length c = search needs
@@ -73,12 +80,13 @@ load-rows-spec =
     (tie.spec
     Inv-loop
     μ-loop
+    slots-of-requires
+    width-of-requires
     loop-holds
     load-row-requires
     mul-from
     add-from
     add-to
-    add-to-2
     add-i
     loop-less
     loop-again

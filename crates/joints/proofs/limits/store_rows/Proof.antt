@@ -7,43 +7,49 @@ use Rattle.joints.proofs.limits.store_rows.Statement.{statement}
 use Rattle.joints.proofs.limits.store_rows.Tie as tie
 
 abbrev Inv-loop : tie.InvT-loop
-Inv-loop t n least greatest slots d₀ at from₀ to₀ i₀ d from to i = Records least greatest slots t n d₀ at d from to i
+Inv-loop k t n d₀ at slots width from₀ to₀ i₀ d from to i = Records k t n d₀ at d from to i
 
 abbrev μ-loop : tie.MeasureT-loop
-μ-loop t n least greatest slots d₀ at from₀ to₀ i₀ d from to i = n - i
+μ-loop k t n d₀ at slots width from₀ to₀ i₀ d from to i = n - i
+
+slots-of-requires : tie.Need-slots-of-requires Inv-loop μ-loop
+slots-of-requires c κs = search needs
+
+width-of-requires : tie.Need-width-of-requires Inv-loop μ-loop
+width-of-requires c κs = search needs
 
 loop-holds : tie.Need-loop-holds Inv-loop μ-loop
-loop-holds c = records-none _ _ _ _ _ _ _
+loop-holds c = records-none _ _ _ _ _
 
 store-row-requires : tie.Need-store-row-requires Inv-loop μ-loop
 store-row-requires c κs =
     let l = c .before .before in
-    let p = l .before .before .before .pre in
-    (p .0, records-here (l .loop .inv) (c .before .loop-test .taken) (p .1 .0) (p .1 .1))
+    let p = l .before .before .before .before .before .pre in
+    records-here (l .loop .inv) (c .before .loop-test .taken) (p .0) (p .1)
 
 add-from : tie.Need-add-from Inv-loop μ-loop
 add-from c =
     let l = c .before .before .before .before .before in
-    let p = l .before .before .before .pre in
-    omega (arith, p .0, records-here (l .loop .inv) (c .before .before .before .before .loop-test .taken) (p .1 .0) (p .1 .1))
-
-add-from-2 : tie.Need-add-from-2 Inv-loop μ-loop
-add-from-2 c =
-    let l = c .before .before .before .before .before in
-    let p = l .before .before .before .pre in
-    omega (arith, p .0, records-here (l .loop .inv) (c .before .before .before .before .loop-test .taken) (p .1 .0) (p .1 .1))
+    let q = l .before in
+    let p = l .before .before .before .before .before .pre in
+    let h = records-here (l .loop .inv) (c .before .before .before .before .loop-test .taken) (p .0) (p .1) in
+    omega (arith, q .width-of .ensures, q .before .slots-of .ensures, h)
 
 mul-to : tie.Need-mul-to Inv-loop μ-loop
 mul-to c =
     let l = c .before .before .before .before .before in
-    let p = l .before .before .before .pre in
-    omega (arith, p .0, records-here (l .loop .inv) (c .before .before .before .before .loop-test .taken) (p .1 .0) (p .1 .1))
+    let q = l .before in
+    let p = l .before .before .before .before .before .pre in
+    let h = records-here (l .loop .inv) (c .before .before .before .before .loop-test .taken) (p .0) (p .1) in
+    omega (arith, q .width-of .ensures, q .before .slots-of .ensures, h)
 
 add-to : tie.Need-add-to Inv-loop μ-loop
 add-to c =
     let l = c .before .before .before .before .before in
-    let p = l .before .before .before .pre in
-    omega (arith, p .0, records-here (l .loop .inv) (c .before .before .before .before .loop-test .taken) (p .1 .0) (p .1 .1))
+    let q = l .before in
+    let p = l .before .before .before .before .before .pre in
+    let h = records-here (l .loop .inv) (c .before .before .before .before .loop-test .taken) (p .0) (p .1) in
+    omega (arith, q .width-of .ensures, q .before .slots-of .ensures, h)
 
 add-i : tie.Need-add-i Inv-loop μ-loop
 add-i c = search needs
@@ -54,9 +60,10 @@ loop-less c = search needs
 loop-again : tie.Need-loop-again Inv-loop μ-loop
 loop-again c =
     let l = c .before .before .before .before .before in
-    let p = l .before .before .before .pre in
-    records-more (l .loop .inv) (c .before .before .before .before .loop-test .taken) (p .1 .0)
-    (c .before .before .store-row .ensures)
+    let q = l .before in
+    let p = l .before .before .before .before .before .pre in
+    rw (q .width-of .ensures, q .before .slots-of .ensures)
+    (records-more (l .loop .inv) (c .before .before .before .before .loop-test .taken) (p .0) (c .before .before .store-row .ensures))
 
 same-length : tie.Need-same-length Inv-loop μ-loop
 same-length c = search needs
@@ -70,10 +77,11 @@ store-rows-spec =
     (tie.spec
     Inv-loop
     μ-loop
+    slots-of-requires
+    width-of-requires
     loop-holds
     store-row-requires
     add-from
-    add-from-2
     mul-to
     add-to
     add-i

@@ -1,6 +1,9 @@
 -- `joints::read::read_limits` meets its contract: the pointer, the count, then where the bytes stand. Assumes nothing.
 use borrow.Author.Needs.{needs}
+use Prim.Native.Nat.{_≤_}
 use denote.Ref.{now}
+use Rattle.joints.specs.Limit.{slotsOf}
+use Rattle.joints.proofs.BothKinds.{slots-some, slots-most}
 use Rattle.joints.proofs.Finding.{bytes-fit, bytes-some, taken-fits, limits-absent, limits-empty, limits-taken}
 use Rattle.joints.proofs.Finding.{limits-refused}
 use Rattle.joints.proofs.Finding.{stage-same, stage-absent, stage-empty, stage-refused}
@@ -11,20 +14,26 @@ use Rattle.joints.proofs.read.read_limits.Tie as tie
 returns : tie.Need-returns
 returns c =
     let k = c .before .before .before .before in
-    stage-absent (k .pre .1) (limits-absent _ _ _ _ (c .if1 .taken))
+    stage-absent (k .pre) (limits-absent _ _ _ _ (c .if1 .taken))
 
 returns-2 : tie.Need-returns-2
 returns-2 c =
     let k = c .before .before .before .before .before in
-    stage-empty (k .pre .1) (limits-empty _ _ _ _ _ (c .before .if1 .left) (c .if2 .taken))
+    stage-empty (k .pre) (limits-empty _ _ _ _ _ (c .before .if1 .left) (c .if2 .taken))
+
+slots-of-requires : tie.Need-slots-of-requires
+slots-of-requires c κs = search needs
 
 mul-locate : tie.Need-mul-locate
-mul-locate c = search needs
+mul-locate c =
+    let p : c .slots-of .result ≤ 48 = rw (c .slots-of .ensures) (slots-most (c .before .before .before .before .before .before .args .k)) in
+    search needs
 
 mul-locate-2 : tie.Need-mul-locate-2
 mul-locate-2 c =
-    let k = c .before .before .before .before .before in
-    record { fits = bytes-fit (k .args .slots) (k .args .n) (k .pre .0 .most) (search needs) }
+    let a = c .before .before .before .before .before .before .args in
+    let p : c .slots-of .result ≤ 48 = rw (c .slots-of .ensures) (slots-most (a .k)) in
+    record { fits = bytes-fit (c .slots-of .result) (a .n) p (search needs) }
 
 locate-requires : tie.Need-locate-requires
 locate-requires c κs = search needs
@@ -34,20 +43,24 @@ enum-known-o c = search needs
 
 take-limits-requires : tie.Need-take-limits-requires
 take-limits-requires c κs =
-    let k = c .before .before .before .before .before .before .before .before .before .before in
+    let m = c .before .before in
+    let l = m .before .before in
+    let k = c .before .before .before .before .before .before .before .before .before .before .before in
     let a = k .args in
-    let l = c .before .before .before .before .locate .ensures in
-    (k .pre .0, (taken-fits (a .slots) (a .n) _ _ (system-stands l (c .before .before .o .given .1)), k .pre .1))
+    let h = rw (l .before .slots-of .ensures) at (system-stands (l .locate .ensures) (m .o .given .1)) in
+    (taken-fits (slotsOf (a .k)) (a .n) _ _ h, k .pre)
 
 enum-known-o-2 : tie.Need-enum-known-o-2
 enum-known-o-2 c = search needs
 
 take-limits-requires-2 : tie.Need-take-limits-requires-2
 take-limits-requires-2 c κs =
-    let k = c .before .before .before .before .before .before .before .before .before .before in
+    let m = c .before .before in
+    let l = m .before .before in
+    let k = c .before .before .before .before .before .before .before .before .before .before .before in
     let a = k .args in
-    let l = c .before .before .before .before .locate .ensures in
-    (k .pre .0, (taken-fits (a .slots) (a .n) _ _ (graphics-stands l (c .before .before .o2 .given .1)), k .pre .1))
+    let h = rw (l .before .slots-of .ensures) at (graphics-stands (l .locate .ensures) (m .o2 .given .1)) in
+    (taken-fits (slotsOf (a .k)) (a .n) _ _ h, k .pre)
 
 enum-known-r : tie.Need-enum-known-r
 enum-known-r c = search needs
@@ -57,16 +70,16 @@ same-length c = search needs
 
 returns-3 : tie.Need-returns-3
 returns-3 c =
-    let k = c .before .before .before .before .before .before .before .before .before .before .before .before .before in
+    let m = c .before .before .before .before .before in
+    let l = m .before .before in
+    let q = l .before in
+    let k = q .before .before .before .before .before .before in
     let a = k .args in
-    let l = c .before .before .before .before .before .before .before .locate .ensures in
-    let some = bytes-some (a .slots) (a .n) (k .pre .0 .id)
-    (c .before .before .before .before .before .before .before .before .if2 .left) in
+    let s = slots-some (a .k) in
     stage-same
-    (limits-taken _ _ (a .slots) (a .va) (a .n)
-    (c .before .before .before .before .before .before .before .before .before .if1 .left) some (now (a .sys))
-    (c .before .before .before .before .before .o .given .0 .0)
-    (system-part l (c .before .before .before .before .before .o .given .1)))
+    (limits-taken _ _ (slotsOf (a .k)) (a .va) (a .n) (q .before .before .if1 .left)
+    (bytes-some (slotsOf (a .k)) (a .n) s (q .before .if2 .left)) (now (a .sys)) (m .o .given .0 .0)
+    (rw (q .slots-of .ensures) at (system-part (l .locate .ensures) (m .o .given .1))))
     (c .before .before .take-limits .ensures)
 
 same-length-2 : tie.Need-same-length-2
@@ -74,27 +87,30 @@ same-length-2 c = search needs
 
 returns-4 : tie.Need-returns-4
 returns-4 c =
-    let k = c .before .before .before .before .before .before .before .before .before .before .before .before .before in
+    let m = c .before .before .before .before .before in
+    let l = m .before .before in
+    let q = l .before in
+    let k = q .before .before .before .before .before .before in
     let a = k .args in
-    let l = c .before .before .before .before .before .before .before .locate .ensures in
-    let some = bytes-some (a .slots) (a .n) (k .pre .0 .id)
-    (c .before .before .before .before .before .before .before .before .if2 .left) in
+    let s = slots-some (a .k) in
     stage-same
-    (limits-taken _ _ (a .slots) (a .va) (a .n)
-    (c .before .before .before .before .before .before .before .before .before .if1 .left) some (now (a .gfx))
-    (c .before .before .before .before .before .o2 .given .0 .0)
-    (graphics-part l (c .before .before .before .before .before .o2 .given .1)))
+    (limits-taken _ _ (slotsOf (a .k)) (a .va) (a .n) (q .before .before .if1 .left)
+    (bytes-some (slotsOf (a .k)) (a .n) s (q .before .if2 .left)) (now (a .gfx)) (m .o2 .given .0 .0)
+    (rw (q .slots-of .ensures) at (graphics-part (l .locate .ensures) (m .o2 .given .1))))
     (c .before .before .take-limits2 .ensures)
 
 returns-5 : tie.Need-returns-5
 returns-5 c =
-    let k = c .before .before .before .before .before .before .before .before .before in
+    let l = c .before .before .before in
+    let q = l .before in
+    let k = q .before .before .before .before .before .before in
     let a = k .args in
-    let some = bytes-some (a .slots) (a .n) (k .pre .0 .id) (c .before .before .before .before .if2 .left) in
+    let s = slots-some (a .k) in
     let x = c .before .r .given .0 .0 in
-    stage-refused (k .pre .1) x
-    (limits-refused _ _ (a .slots) (a .va) (a .n) (c .before .before .before .before .before .if1 .left) some x
-    (refused-part (c .before .before .before .locate .ensures) (c .before .r .given .1)))
+    stage-refused (k .pre) x
+    (limits-refused _ _ (slotsOf (a .k)) (a .va) (a .n) (q .before .before .if1 .left)
+    (bytes-some (slotsOf (a .k)) (a .n) s (q .before .if2 .left)) x
+    (rw (q .slots-of .ensures) at (refused-part (l .locate .ensures) (c .before .r .given .1))))
 
 pub read-limits-spec : {M : Type 1} → statement M
 read-limits-spec =
@@ -102,6 +118,7 @@ read-limits-spec =
     (tie.spec
     returns
     returns-2
+    slots-of-requires
     mul-locate
     mul-locate-2
     locate-requires

@@ -1,12 +1,11 @@
 -- `joints::read::read_lists` meets its contract: one list, then the other. Assumes nothing.
 use borrow.Author.Needs.{needs}
-use Rattle.joints.proofs.BothKinds.{rotation-shape, translation-shape}
 use Rattle.joints.proofs.Lists.{lists-first, lists-second, lists-both}
 use Rattle.joints.proofs.read.read_lists.Statement.{statement}
 use Rattle.joints.proofs.read.read_lists.Tie as tie
 
 read-limits-requires : tie.Need-read-limits-requires
-read-limits-requires c κs = (rotation-shape, c .before .before .before .before .before .pre .0)
+read-limits-requires c κs = c .before .before .before .before .before .pre .0
 
 enum-known-first : tie.Need-enum-known-first
 enum-known-first c = search needs
@@ -24,10 +23,7 @@ enum-told : tie.Need-enum-told
 enum-told c = search needs
 
 read-limits-requires-2 : tie.Need-read-limits-requires-2
-read-limits-requires-2 c κs = (
-  translation-shape,
-  c .before .before .before .before .before .before .before .before .before .before .before .pre .1,
-)
+read-limits-requires-2 c κs = c .before .before .before .before .before .before .before .before .before .before .before .pre .1
 
 enum-known-second : tie.Need-enum-known-second
 enum-known-second c = search needs

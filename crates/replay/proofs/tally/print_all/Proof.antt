@@ -5,10 +5,10 @@ use Rattle.replay.proofs.tally.print_all.Statement.{statement}
 use Rattle.replay.proofs.tally.print_all.Tie as tie
 
 abbrev Inv-loop : tie.InvT-loop
-Inv-loop counts line₀ line = line ≤ 112
+Inv-loop counts line₀ line = line ≤ 116
 
 abbrev μ-loop : tie.MeasureT-loop
-μ-loop counts line₀ line = 112 - line
+μ-loop counts line₀ line = 116 - line
 
 loop-holds : tie.Need-loop-holds Inv-loop μ-loop
 loop-holds c = search needs
