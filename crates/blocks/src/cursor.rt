@@ -20,7 +20,7 @@ pub struct Cursor<'a> {
     overrun: bool,
 }
 
-#[derive(Drop)]
+#[derive(Clone, Copy)]
 pub enum CursorCheck {
     Within,
     // 11
@@ -30,7 +30,7 @@ pub enum CursorCheck {
 // ---- the work, over slices and numbers
 
 // Where a read leaves a cursor.
-#[derive(Drop)]
+#[derive(Clone, Copy)]
 pub struct After {
     pub pos: usize,
     pub overrun: bool,

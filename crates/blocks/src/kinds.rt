@@ -4,7 +4,7 @@ ghost use Rattle.format.specs.Tables.{kind_number, same_kind};
 ghost use Rattle.blocks.specs.Kinds.{meant_kind, kind_code, kind_from};
 
 // The four tables that a plain array is read into.
-#[derive(Drop)]
+#[derive(Clone, Copy)]
 pub enum ListTable {
     Inverse,
     Local,
@@ -12,7 +12,7 @@ pub enum ListTable {
     Children,
 }
 
-#[derive(Drop)]
+#[derive(Clone, Copy)]
 pub enum Kind {
     Skeleton,
     Buckets,

@@ -8,7 +8,7 @@ use crate::places;
 use crate::places::Located;
 use format::{Place, Refusal};
 
-#[derive(Drop)]
+#[derive(Clone, Copy)]
 pub enum Named {
     At(Place),
     // 10 where the address is in neither half, 11 where it lies past its half's end

@@ -15,7 +15,7 @@ const SYSTEM: u64 = format::SYSTEM_BASE / WINDOW;
 const GRAPHICS: u64 = format::GRAPHICS_BASE / WINDOW;
 
 // Where some bytes stand.
-#[derive(Drop)]
+#[derive(Clone, Copy)]
 pub enum Located {
     // in the system half, at this offset
     System(usize),

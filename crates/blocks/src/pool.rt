@@ -15,7 +15,7 @@ use crate::tree::Ended;
 use format::{POOL_WORDS, Refusal};
 
 // What was read at an address.
-#[derive(Drop)]
+#[derive(Clone, Copy)]
 pub enum Found {
     Nothing,
     // the kind, and the first and the count of what is stored
@@ -23,7 +23,7 @@ pub enum Found {
 }
 
 // What was read at an address as a kind.
-#[derive(Drop)]
+#[derive(Clone, Copy)]
 pub enum Cached {
     Nothing,
     // the first and the count of what is stored
@@ -33,7 +33,7 @@ pub enum Cached {
 }
 
 // Whether a row was stored.
-#[derive(Drop)]
+#[derive(Clone, Copy)]
 pub enum Stored {
     Done,
     // 1: no row is free, and the address has none; the table is as it was

@@ -13,7 +13,7 @@ use format::POOL_WORDS;
 const LINKABLE: usize = 1073741823;
 
 // Where the path of an address ends.
-#[derive(Drop)]
+#[derive(Clone, Copy)]
 pub(crate) enum Ended {
     // at the row of the address
     At(usize),

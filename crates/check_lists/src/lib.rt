@@ -1,11 +1,13 @@
 // Comparing what was read with what was derived (docs/FORMAT.md, "Lookup and check"): lists word by word, and chains along the links
 // of two tables of entries. Each comparison stops at the first difference.
+#![tactic(auto)]
+
 ghost use Rattle.std.specs.Prelude.{◌≡◌, min, ◌-◌, take, get_or};
 ghost use Rattle.format.specs.Check.{chain_along, chains_along, no_entry, same_entry, same_list, same_words};
 ghost use Rattle.check_lists.specs.Chained.{alike, entries_in, meant_row};
 
 // A row of a table of entries. `link` is 0 at a chain's end, and otherwise one more than the next entry's row.
-#[derive(Drop)]
+#[derive(Clone, Copy)]
 struct Row {
     tag: u32,
     position: u32,

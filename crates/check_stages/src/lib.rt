@@ -1,6 +1,8 @@
 // The stages of the check behind reading (docs/FORMAT.md, "Lookup and check"): whether the working tables have room, and then chains,
 // indices and matrices. Each stage derives from the bones read into working tables, compares with what was read, and leaves its
 // working tables zero. Counts are of words, buckets or bones; what is absent counts 0.
+#![tactic(auto)]
+
 ghost use Rattle.std.specs.Prelude.{◌≡◌, ◌≤◌, length};
 ghost use Rattle.format.specs.Result.{done};
 ghost use Rattle.format.specs.Deriving.{derives};
@@ -21,7 +23,7 @@ use format::Refusal;
 use tables::{clear16, clear32};
 
 // Whether what was read equals what was derived.
-#[derive(Drop)]
+#[derive(Clone, Copy)]
 pub enum Agreement {
     Same,
     Refused(Refusal),

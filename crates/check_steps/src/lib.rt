@@ -1,5 +1,7 @@
 // The answer of the check, and the steps to it behind the reading (docs/FORMAT.md, "Lookup and check"): the room, chains, indices,
 // matrices, each behind the answer so far, and the clearing where it is no acceptance.
+#![tactic(auto)]
+
 ghost use Rattle.std.specs.Prelude.{◌≡◌, length};
 ghost use Rattle.format.specs.Deriving.{derives};
 ghost use Rattle.format.specs.Rows.{cleared};
@@ -16,7 +18,7 @@ use read::{Part, SkeletonRead, clear_all};
 use tables::{clear16, clear32};
 
 // The answer of the check.
-#[derive(Drop)]
+#[derive(Clone, Copy)]
 pub enum Checked {
     // root 0
     Nothing,
@@ -26,7 +28,7 @@ pub enum Checked {
 }
 
 // How long each part is that was read: in rows, and in words of a list of matrices. What is absent counts 0.
-#[derive(Drop)]
+#[derive(Clone, Copy)]
 pub struct Counts {
     pub bones: usize,
     pub buckets: usize,

@@ -1,4 +1,6 @@
 // Each method of a cursor in turn, over plain parameters: what the run against the Rust calls (`Cursor` of `src/blocks/mod.rs`).
+#![tactic(auto)]
+
 ghost use Rattle.std.specs.Prelude.{◌≡◌};
 ghost use Rattle.format.specs.Result.{status};
 ghost use Rattle.blocks.specs.Cursor.{check_of};
@@ -8,7 +10,7 @@ use blocks::cursor::{Cursor, CursorCheck};
 use format::{Words3, Words4};
 
 // What each read gives, and where it leaves the cursor.
-#[derive(Drop)]
+#[derive(Clone, Copy)]
 pub struct Turns {
     pub byte: u8,
     pub half: u16,

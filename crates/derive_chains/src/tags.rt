@@ -16,14 +16,14 @@ use rows::tag_at;
 use tables::{TableRoom, clear32};
 
 // The answer: how many buckets there are.
-#[derive(Drop)]
+#[derive(Clone, Copy)]
 pub enum Tagged {
     Done(usize),
     Refused(Refusal),
 }
 
 // A row of the entries table. `link` is 0 at a chain's end, and otherwise one more than the next entry's row.
-#[derive(Drop)]
+#[derive(Clone, Copy)]
 pub struct TagEntry {
     pub tag: u32,
     pub position: u32,

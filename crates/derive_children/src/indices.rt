@@ -15,7 +15,7 @@ use rows::parent_at;
 use tables::{TableRoom, clear16, clear32};
 
 // The answer: how many child entries there are.
-#[derive(Drop)]
+#[derive(Clone, Copy)]
 pub enum Indexed {
     Done(usize),
     Refused(Refusal),

@@ -11,7 +11,7 @@ ghost use Rattle.derive_children.specs.Indexing.{indices_for, Rooted};
 use rows::index_at;
 
 // A bone taken, the word of its first child, and how many words the pile then has.
-#[derive(Drop)]
+#[derive(Clone, Copy)]
 struct One {
     bone: usize,
     kid: u32,
@@ -19,7 +19,7 @@ struct One {
 }
 
 // The words of the first children of four bones taken, and how many words the pile then has.
-#[derive(Drop)]
+#[derive(Clone, Copy)]
 struct Four {
     a: u32,
     b: u32,

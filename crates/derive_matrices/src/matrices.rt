@@ -17,7 +17,7 @@ use rows::{kept_at, scale_at};
 use tables::{TableRoom, clear32, clear32_from};
 
 // The answer.
-#[derive(Drop)]
+#[derive(Clone, Copy)]
 pub enum Transformed {
     Done,
     Refused(Refusal),

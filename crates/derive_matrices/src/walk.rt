@@ -11,7 +11,7 @@ use crate::floats::{floats3, floats4, plain, plain3, plain4};
 use math::{Vec3, Vec4};
 
 // The words that the parent walk reads of a bone: a rotation, a translation and a parent.
-#[derive(Drop)]
+#[derive(Clone, Copy)]
 pub struct JointWords {
     pub x: u32,
     pub y: u32,
@@ -24,7 +24,7 @@ pub struct JointWords {
 }
 
 // What the parent walk takes from a bone.
-#[derive(Drop)]
+#[derive(Clone, Copy)]
 pub struct Joint {
     pub rotation: Vec4,
     pub translation: Vec3,
@@ -33,14 +33,14 @@ pub struct Joint {
 }
 
 // Where the parent walk stands.
-#[derive(Drop)]
+#[derive(Clone, Copy)]
 pub struct Pose {
     pub position: Vec3,
     pub rotation: Vec4,
 }
 
 // A bone on its walk: where it stands, and the parent to go to next.
-#[derive(Drop)]
+#[derive(Clone, Copy)]
 pub struct Climber {
     pub pose: Pose,
     // a pattern, negative from 32768 on
@@ -48,7 +48,7 @@ pub struct Climber {
 }
 
 // Four bones on their walks, each so many steps up.
-#[derive(Drop)]
+#[derive(Clone, Copy)]
 pub struct Four {
     pub a: Climber,
     pub b: Climber,

@@ -1,5 +1,7 @@
 // Little-endian fields of 16, 32 and 64 bits in a lent slice (docs/FORMAT.md, "Finding bytes"), read as the Rust's `Cursor` reads them.
 // The bounds are tested here, once for each call; the private functions at the end ask for them.
+#![tactic(auto)]
+
 ghost use Rattle.std.specs.Prelude.{◌≡◌, ◌+◌, ◌≤◌, length};
 ghost use Rattle.std.proofs.lemmas.List.Edits.{sets};
 ghost use Rattle.format.specs.Field as Field;
@@ -9,7 +11,7 @@ ghost use Rattle.fields.specs.Placed.{placed_of};
 pub mod runs; // runs of words
 
 // Whether a field was stored.
-#[derive(Drop)]
+#[derive(Clone, Copy)]
 pub enum Placed {
     // All its bytes stand in the slice and hold the number.
     Stored,

@@ -1,5 +1,7 @@
 // The format of skeleton and joint sections: refusals, the sizes of records, the widths and words of the rows of lent tables, constants,
 // and floats as words. What each call means stands in `specs/`.
+#![tactic(auto)]
+
 ghost use Rattle.std.specs.Prelude.{◌≡◌};
 ghost use Rattle.format.specs.Refusal.{number};
 
@@ -145,7 +147,7 @@ pub const GREATEST_ROTATION_ID: u32 = 65535;
 pub const LONGEST_NAME: usize = 255;
 
 // three floats as their words
-#[derive(Drop)]
+#[derive(Clone, Copy)]
 pub struct Words3 {
     pub x: u32,
     pub y: u32,
@@ -153,7 +155,7 @@ pub struct Words3 {
 }
 
 // four floats as their words
-#[derive(Drop)]
+#[derive(Clone, Copy)]
 pub struct Words4 {
     pub x: u32,
     pub y: u32,
@@ -162,14 +164,14 @@ pub struct Words4 {
 }
 
 // Where a name lies: its address and its length in bytes. Where a row holds one, address 0 is no name.
-#[derive(Drop)]
+#[derive(Clone, Copy)]
 pub struct Place {
     pub address: u64,
     pub size: u64,
 }
 
 // Why a call refuses. The comment gives its number, who causes it, and when (docs/FORMAT.md, "Who can cause a refusal").
-#[derive(Drop)]
+#[derive(Clone, Copy)]
 pub enum Refusal {
     // 1, the caller: a lent table is too short.
     TableTooShort,

@@ -1,4 +1,6 @@
 // The hash of names (docs/FORMAT.md, "Joints and names"; `src/hash.rs`): Jenkins one-at-a-time, over the bytes as they are given.
+#![tactic(auto)]
+
 ghost use Rattle.std.specs.Prelude.{◌≡◌};
 ghost use Rattle.format.specs.Hash.{rage_joaat};
 

@@ -13,7 +13,7 @@ ghost use Rattle.joints.specs.Written.{meant_record_written, left_in};
 use crate::{records, words};
 use format::Refusal;
 
-#[derive(Drop)]
+#[derive(Clone, Copy)]
 pub enum LimitKind {
     Rotation,
     Translation,
@@ -117,7 +117,7 @@ pub(crate) fn store_rows(k: LimitKind, t: &[u32], n: usize, d: &mut [u8], at: us
 
 // ---- one record
 
-#[derive(Drop)]
+#[derive(Clone, Copy)]
 pub enum RecordWritten {
     Done,
     Refused(Refusal),

@@ -15,7 +15,7 @@ use blocks::places::Located;
 use format::Refusal;
 
 // A list of limits.
-#[derive(Drop)]
+#[derive(Clone, Copy)]
 pub enum LimitList {
     // Its pointer is 0.
     Absent,
@@ -23,7 +23,7 @@ pub enum LimitList {
     Of(u16),
 }
 
-#[derive(Drop)]
+#[derive(Clone, Copy)]
 pub struct Joints {
     // the kind word and the two counts, as they are stored
     pub kind: u32,
@@ -33,7 +33,7 @@ pub struct Joints {
     pub translation: LimitList,
 }
 
-#[derive(Drop)]
+#[derive(Clone, Copy)]
 pub enum JointsRead {
     // the root address is 0
     Nothing,
@@ -44,7 +44,7 @@ pub enum JointsRead {
 // ---- the record
 
 // The fields read: the kind word at 0, the pointers at 16 and 24, the counts at 48 and 50.
-#[derive(Drop)]
+#[derive(Clone, Copy)]
 struct Record {
     kind: u32,
     rotation: u64,
@@ -53,7 +53,7 @@ struct Record {
     translation_count: u16,
 }
 
-#[derive(Drop)]
+#[derive(Clone, Copy)]
 enum Found {
     At(Record),
     Refused(Refusal),
@@ -84,7 +84,7 @@ fn find_record(sys: &[u8], gfx: &[u8], root: u64) -> Found
 
 // ---- one list of limits, of either kind, into a table that is zero
 
-#[derive(Drop)]
+#[derive(Clone, Copy)]
 enum Step {
     Done,
     Refused(Refusal),

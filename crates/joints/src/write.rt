@@ -12,7 +12,7 @@ use crate::limits::LimitKind;
 use crate::{limits, words};
 use format::Refusal;
 
-#[derive(Drop)]
+#[derive(Clone, Copy)]
 pub enum JointsWritten {
     // this many bytes stand at the front of the buffer
     Done(usize),

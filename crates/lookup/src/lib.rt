@@ -1,5 +1,7 @@
 // Lookup of a tag in the bytes of a section (docs/FORMAT.md, "Lookup and check"): no table is lent, and nothing but the bytes that the
 // walk comes to is read.
+#![tactic(auto)]
+
 ghost use Rattle.std.specs.Prelude.{◌≡◌};
 ghost use Rattle.format.specs.Lookup as Definitions;
 ghost use Rattle.blocks.specs.Places.{section};
@@ -16,7 +18,7 @@ use read_records::{entry, header};
 const POINTER: usize = 8;
 
 // What the lookup of a tag comes to.
-#[derive(Drop)]
+#[derive(Clone, Copy)]
 pub enum Looked {
     // the position in the first entry with the tag
     Found(u32),

@@ -1,5 +1,7 @@
 // Float work of the rig exporter, `src/math.rs` in f32: each operation rounds once, in the Rust's written order
 // (docs/FORMAT.md, "Float work"). Here are the types, and floats as the 32-bit words that records and tables hold.
+#![tactic(auto)]
+
 mod vector; // what a `Vec3` and a `Vec4` do
 mod matrix; // what a `Mat4` does, but for its inverse
 mod inverse; // the inverse of a `Mat4`
@@ -9,7 +11,7 @@ ghost use Rattle.math.specs.Word.{float_of, word_of};
 
 // Each is laid out as in C, so that C can lend one.
 #[repr(C)]
-#[derive(Drop)]
+#[derive(Clone, Copy)]
 pub struct Vec3 {
     pub x: f32,
     pub y: f32,
@@ -17,7 +19,7 @@ pub struct Vec3 {
 }
 
 #[repr(C)]
-#[derive(Drop)]
+#[derive(Clone, Copy)]
 pub struct Vec4 {
     pub x: f32,
     pub y: f32,
@@ -27,7 +29,7 @@ pub struct Vec4 {
 
 // Sixteen floats in row-major order, the translation in the fourth row.
 #[repr(C)]
-#[derive(Drop)]
+#[derive(Clone, Copy)]
 pub struct Mat4(pub [f32; 16]);
 
 const SIGN_BIT: u32 = 0x8000_0000;

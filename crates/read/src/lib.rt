@@ -1,4 +1,6 @@
 // Reading a skeleton from a section into lent tables (docs/FORMAT.md, "Reading and writing a skeleton"; `Skeleton::read`).
+#![tactic(auto)]
+
 ghost use Rattle.std.specs.Prelude.{◌≡◌};
 ghost use Rattle.format.specs.Tables.{no_rows};
 ghost use Rattle.format.specs.Read.{read_skeleton};
@@ -17,14 +19,14 @@ use read_records::header::Headed;
 mod parts; // the parts, one after another
 
 // Whether a part stands, and how long it is: in rows, and in words of a list of matrices.
-#[derive(Drop)]
+#[derive(Clone, Copy)]
 pub enum Part {
     Absent,
     Of(usize),
 }
 
 // A skeleton that was read: the fields that stay, and which parts stand. Each part's rows are the first of its table.
-#[derive(Drop)]
+#[derive(Clone, Copy)]
 pub struct Skeleton {
     // the kind word, as it is stored
     pub kind: u32,
@@ -42,7 +44,7 @@ pub struct Skeleton {
     pub children: Part,
 }
 
-#[derive(Drop)]
+#[derive(Clone, Copy)]
 pub enum SkeletonRead {
     // root 0
     Nothing,
@@ -51,7 +53,7 @@ pub enum SkeletonRead {
 }
 
 // What filling the tables comes to.
-#[derive(Drop)]
+#[derive(Clone, Copy)]
 enum Filled {
     Read(Skeleton),
     Refused(Refusal),

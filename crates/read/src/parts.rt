@@ -14,14 +14,14 @@ use read_lists::{Indices, Listed, Matrices};
 use read_records::header::Header;
 
 // What a part comes to.
-#[derive(Drop)]
+#[derive(Clone, Copy)]
 pub enum Got {
     Done(Part),
     Refused(Refusal),
 }
 
 // What two parts come to.
-#[derive(Drop)]
+#[derive(Clone, Copy)]
 pub enum Two {
     Done(Part, Part),
     Refused(Refusal),

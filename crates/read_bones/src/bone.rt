@@ -16,7 +16,7 @@ use format::{Place, Refusal, Words3, Words4};
 use rows::Bone;
 
 // What a bone comes to.
-#[derive(Drop)]
+#[derive(Clone, Copy)]
 pub enum Row {
     // its row, and how many rows of bones are used now
     At(u64, usize),

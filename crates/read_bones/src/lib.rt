@@ -1,5 +1,7 @@
 // The bones block of a skeleton (docs/FORMAT.md, "Reading and writing a skeleton"; `SkeletonBonesBlock::read`). Two lent tables take
 // what is read: bones, 21 words a row, and the pool. A refusal leaves them as they happen to be: whoever lends them clears them.
+#![tactic(auto)]
+
 ghost use Rattle.std.specs.Prelude.{◌≡◌, ◌≤◌};
 ghost use Rattle.blocks.specs.Places.{section};
 ghost use Rattle.read_bones.specs.Blocks.{ReadsBones, LegalAt, NewBlock, ReadsBlock};
@@ -20,7 +22,7 @@ const HEADER_SIZE: u64 = format::BLOCK_HEADER_SIZE as u64;
 const BONE_SIZE: u64 = format::BONE_SIZE as u64;
 
 // What the bones block comes to.
-#[derive(Drop)]
+#[derive(Clone, Copy)]
 pub enum Block {
     // no block: its address or the pointer is 0
     Absent,
@@ -30,7 +32,7 @@ pub enum Block {
 }
 
 // Whether the block's header stands.
-#[derive(Drop)]
+#[derive(Clone, Copy)]
 enum Header {
     Stands,
     // 10 where the address is in neither half, 11 where the header does not lie whole in its half
@@ -38,7 +40,7 @@ enum Header {
 }
 
 // What some bones come to.
-#[derive(Drop)]
+#[derive(Clone, Copy)]
 enum Stretch {
     // how many rows of bones are used now
     Done(usize),

@@ -23,7 +23,7 @@ use read_records::entry::Fields;
 pub const MOST_ENTRIES: usize = 4294967294;
 
 // Where an address leads from an entry or a bucket.
-#[derive(Drop)]
+#[derive(Clone, Copy)]
 enum Link {
     // the link: 0, or one more than the row of an entry already read
     To(u32),
@@ -34,7 +34,7 @@ enum Link {
 }
 
 // What follows an entry that was read.
-#[derive(Drop)]
+#[derive(Clone, Copy)]
 enum Step {
     // nothing, or an entry already read
     End,
@@ -44,7 +44,7 @@ enum Step {
 }
 
 // What a chain comes to.
-#[derive(Drop)]
+#[derive(Clone, Copy)]
 enum Chain {
     // how many rows of entries are used now
     Done(usize),
@@ -52,7 +52,7 @@ enum Chain {
 }
 
 // What the chain of a bucket comes to.
-#[derive(Drop)]
+#[derive(Clone, Copy)]
 pub enum Head {
     // the link to its first entry, and how many rows of entries are used now
     At(u32, usize),

@@ -2,6 +2,8 @@
 // buckets). Three lent tables take what is read: buckets, one word a row; entries, three words a row (tag, position, link); and
 // the pool. A link is 0, or one more than the row of an entry. A refusal leaves the tables as they happen to be: whoever lends
 // them clears them.
+#![tactic(auto)]
+
 ghost use Rattle.blocks.specs.Places.{section};
 ghost use Rattle.read_chains.specs.Arrays.{Standing, ReadsBucket, ReadsPointers, ReadsNewArray, ReadsBuckets};
 
@@ -18,7 +20,7 @@ mod chains; // entries, chains, and the link to a chain's head
 const POINTER: usize = 8;
 
 // What the bucket array at an address comes to.
-#[derive(Drop)]
+#[derive(Clone, Copy)]
 pub enum Buckets {
     // no array: the address is 0
     Absent,
@@ -30,7 +32,7 @@ pub enum Buckets {
 }
 
 // Whether an array stands.
-#[derive(Drop)]
+#[derive(Clone, Copy)]
 enum Array {
     Stands,
     // 10 where the address is in neither half, 11 where not all the bytes stand
@@ -38,7 +40,7 @@ enum Array {
 }
 
 // What some buckets come to.
-#[derive(Drop)]
+#[derive(Clone, Copy)]
 enum Stretch {
     // how many rows of buckets and of entries are used now
     Done(usize, usize),

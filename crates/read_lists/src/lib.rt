@@ -1,5 +1,7 @@
 // Plain arrays of a section, read into lent tables under the pool (docs/FORMAT.md, "Finding bytes"; `read_struct_array`): the two
 // lists of matrices, sixteen 32-bit words a row, and the two lists of 16-bit indices, one word a row.
+#![tactic(auto)]
+
 ghost use Rattle.std.specs.Prelude.{◌≡◌};
 ghost use Rattle.blocks.specs.Kinds.{meant_table};
 ghost use Rattle.blocks.specs.Places.{section};
@@ -14,7 +16,7 @@ mod pooling; // what the pool says of a list, and its row there
 mod storing; // words stored as new rows, from bytes or from the other table
 
 // What reading a list gives.
-#[derive(Drop)]
+#[derive(Clone, Copy)]
 pub enum Listed {
     // the address 0: no list stands
     Absent,
@@ -25,14 +27,14 @@ pub enum Listed {
 }
 
 // The two lists of matrices.
-#[derive(Drop)]
+#[derive(Clone, Copy)]
 pub enum Matrices {
     Inverse,
     Local,
 }
 
 // The two lists of indices.
-#[derive(Drop)]
+#[derive(Clone, Copy)]
 pub enum Indices {
     Parents,
     Children,

@@ -9,7 +9,7 @@ use blocks::pool::{Found, Stored};
 use format::Refusal;
 
 // How a list comes into its table, by what the pool has at its address.
-#[derive(Drop)]
+#[derive(Clone, Copy)]
 pub enum Way {
     // a list of its kind, in its own table: the first and the count of its words
     Again(u64, u64),

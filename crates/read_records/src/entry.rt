@@ -10,7 +10,7 @@ use blocks::places::Located;
 use format::Refusal;
 
 // The fields of an entry: its tag, its position, and the address of the next.
-#[derive(Drop)]
+#[derive(Clone, Copy)]
 pub struct Entry {
     pub tag: u32,
     pub position: u32,
@@ -18,7 +18,7 @@ pub struct Entry {
 }
 
 // What the bytes at an address hold.
-#[derive(Drop)]
+#[derive(Clone, Copy)]
 pub enum Fields {
     At(Entry),
     // 10 where the address is in neither half, 11 where not all the bytes stand
@@ -26,7 +26,7 @@ pub enum Fields {
 }
 
 // What the reads of an entry give, zeros where they run past the end, and whether one did.
-#[derive(Drop)]
+#[derive(Clone, Copy)]
 struct Read {
     tag: u32,
     position: u32,

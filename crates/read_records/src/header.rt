@@ -9,7 +9,7 @@ use blocks::places::Located;
 use format::{Refusal, Words4};
 
 // The fields, by their offsets.
-#[derive(Drop)]
+#[derive(Clone, Copy)]
 pub struct Header {
     // 0, as it is stored: it is not examined
     pub kind: u32,
@@ -30,7 +30,7 @@ pub struct Header {
     pub child_count: u16,
 }
 
-#[derive(Drop)]
+#[derive(Clone, Copy)]
 pub enum Headed {
     At(Header),
     // 10 where the address is in neither half, 11 where not all of the 98 bytes stand

@@ -1,6 +1,8 @@
 // Runs a stored sample of the published Rust's answers against our code, with no Rust at hand (compare/vectors/README.md). The cases
 // come from standard input. Printed are, for each operation, how many runs there were and how many agree; how often each answer was
 // met; and how many runs differ. The first that differs is named where it is met.
+#![tactic(auto)]
+
 mod tables; // what is lent
 mod tally; // how the runs came out
 mod sections; // reading a skeleton, and looking up a tag

@@ -1,5 +1,7 @@
 // The stored sample of the published Rust's answers (compare/vectors/README.md): a case's parts, tables compared with what a part
 // holds, and counts of how the runs came out.
+#![tactic(auto)]
+
 ghost use Rattle.std.specs.Prelude.{◌≡◌, ◌+◌, ◌-◌, min, length, take, get_or};
 ghost use Rattle.format.specs.Rows.{laid};
 ghost use Rattle.format.specs.Check.{same_words};

@@ -1,5 +1,7 @@
 // What C and Rust call. A slice is a pointer, then a length. Each export is thin, and states its outcome by the definitions that the
 // function it calls states it by.
+#![tactic(auto)]
+
 mod abi; // the number of the exports
 mod numbers; // little-endian fields
 mod setters; // the setters of a matrix

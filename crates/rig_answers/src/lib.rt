@@ -1,5 +1,7 @@
 // Answers as numbers, for C and Rust: a status, 0, 100 for none or the number of the refusal, and what the call gives, fields,
 // a count or a position.
+#![tactic(auto)]
+
 ghost use Rattle.std.specs.Prelude.{◌≡◌};
 ghost use Rattle.std.proofs.Math.Option.{some};
 ghost use Rattle.format.specs.Result.{done, status};

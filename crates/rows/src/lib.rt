@@ -1,5 +1,7 @@
 // A bone's row in a lent table of 32-bit words (docs/FORMAT.md, "Records"; the words of a row stand in `format`, Rows.antt).
 // Every table and position has an answer: words that the table lacks read as 0.
+#![tactic(auto)]
+
 ghost use Rattle.std.specs.Prelude.{◌≡◌, ◌+◌, ◌*◌, ◌/◌, ◌%◌, ◌^◌, ◌≤◌, length, get_or};
 ghost use Rattle.std.proofs.lemmas.List.Edits.{sets};
 ghost use Rattle.math.specs.Word.{float_of};
@@ -14,7 +16,7 @@ use format::{BONE_WORDS, Place, Words3, Words4};
 use math::{Vec3, Vec4, float_of};
 
 // A bone as its row holds it. Signed 16-bit numbers are their patterns, negative from 32768 on.
-#[derive(Drop)]
+#[derive(Clone, Copy)]
 pub struct Bone {
     // a quaternion x, y, z, w
     pub rotation: Words4,
@@ -31,7 +33,7 @@ pub struct Bone {
 }
 
 // Whether a row was stored.
-#[derive(Drop)]
+#[derive(Clone, Copy)]
 pub enum RowStored {
     Done,
     // the row does not lie in the table

@@ -1,4 +1,6 @@
 // The name search (docs/FORMAT.md, "Joints and names"): a section is read, and its bones' names are hashed.
+#![tactic(auto)]
+
 ghost use Rattle.std.specs.Prelude.{◌≡◌};
 ghost use Rattle.format.specs.Tables.{no_rows};
 ghost use Rattle.format.specs.Read.{read_skeleton};
@@ -15,7 +17,7 @@ use read::{Part, SkeletonRead};
 mod named; // the first bone of a table whose name hashes to a key
 
 // What a search comes to.
-#[derive(Drop)]
+#[derive(Clone, Copy)]
 pub enum Searched {
     // the position of the first bone whose name hashes to the key
     Found(usize),

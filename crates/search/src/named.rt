@@ -10,7 +10,7 @@ ghost use Rattle.search.specs.First.{first_of, stored_names};
 use blocks::names;
 use format::Place;
 
-#[derive(Drop)]
+#[derive(Clone, Copy)]
 pub(crate) enum First {
     // its position
     At(usize),

@@ -1,5 +1,7 @@
 // The program (docs/FORMAT.md, "Joints and names"): checks the system section on standard input, its root at 50000000 hex and its graphics
 // section empty, and prints `ok` and the bone count, or `refused` and the number.
+#![tactic(auto)]
+
 mod line; // the line printed
 
 ghost use Rattle.std.specs.Prelude.{◌≡◌, ◌≤◌, length, drop};

@@ -1,5 +1,7 @@
 // Lent tables and buffers (docs/FORMAT.md, "Who can cause a refusal"): whether tables have room, clearing them, and the written front of a
 // buffer.
+#![tactic(auto)]
+
 ghost use Rattle.std.specs.Prelude.{◌≡◌, ◌++◌, ◌-◌, length, take};
 ghost use Rattle.format.specs.Rows.{cleared};
 ghost use Rattle.tables.specs.Front.{front_of};
@@ -7,7 +9,7 @@ ghost use Rattle.tables.specs.Front.{front_of};
 use format::Refusal;
 
 // Whether lent tables have room.
-#[derive(Drop)]
+#[derive(Clone, Copy)]
 pub enum TableRoom {
     Enough,
     Refused(Refusal),

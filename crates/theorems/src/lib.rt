@@ -1,5 +1,7 @@
 // Demands 1 and 3 of the calls, the exports and the program: statements in `specs/`, proved in `proofs/`. The one function here shows
 // that what they ask of bytes and words is asked of every argument by its type.
+#![tactic(auto)]
+
 ghost use Rattle.promises.specs.Meaning.{Fits4};
 ghost use Rattle.format.specs.Words.{meant_words4};
 ghost use Rattle.read_laws.specs.Bytes.{Bytes8};

@@ -1,5 +1,7 @@
 // The skeleton check (docs/FORMAT.md, "Lookup and check"): a section is read, all that can be derived is derived from the bones read, and
 // the two are compared word by word.
+#![tactic(auto)]
+
 ghost use Rattle.blocks.specs.Places.{section};
 ghost use Rattle.read.specs.Lent.{lent};
 ghost use Rattle.tables.specs.Working.{working};

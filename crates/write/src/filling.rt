@@ -20,7 +20,7 @@ use crate::words::{put_halves, put_words, put_zeros};
 use format::Words4;
 
 // How many there are of what.
-#[derive(Drop)]
+#[derive(Clone, Copy)]
 pub struct Sizes {
     pub bones: usize,
     pub buckets: usize,

@@ -1,4 +1,6 @@
 // The section writer (docs/FORMAT.md, "Reading and writing a skeleton"): first the parts are placed, then they are filled.
+#![tactic(auto)]
+
 mod words; // words, halves and bytes stored one behind the other
 mod starts; // where the parts of a section start
 mod skeleton; // the skeleton's record
@@ -20,7 +22,7 @@ use crate::working::clear_tables;
 use format::{Refusal, Words4};
 
 // The answer of the writer.
-#[derive(Drop)]
+#[derive(Clone, Copy)]
 pub enum Written {
     // how many bytes were written, from the buffer's start on
     Done(usize),

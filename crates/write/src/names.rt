@@ -14,7 +14,7 @@ use blocks::places::{Located, locate};
 use rows::name_at;
 
 // What the names come to.
-#[derive(Drop)]
+#[derive(Clone, Copy)]
 pub enum Measured {
     // all are good, and take this many bytes with their zeros
     Bytes(usize),

@@ -18,7 +18,7 @@ use crate::working::{Derived, derive_tables};
 use derive_chains::buckets::{bucket_count, entry_count};
 use format::{BONE_WORDS, Refusal, Words4};
 
-#[derive(Drop)]
+#[derive(Clone, Copy)]
 pub enum Tested {
     // all bones can be written, and their names take this many bytes
     Names(usize),

@@ -6,7 +6,7 @@ ghost use Rattle.write.specs.Placing.{Counts, meant_starts};
 ghost use Rattle.format.specs.Section.{window};
 
 // How far into the section each part starts.
-#[derive(Drop)]
+#[derive(Clone, Copy)]
 pub struct Starts {
     pub buckets: usize,
     pub entries: usize,

@@ -10,7 +10,7 @@ use derive_matrices::matrices::{Transformed, build_transformations};
 use format::Refusal;
 use tables::{clear16, clear32};
 
-#[derive(Drop)]
+#[derive(Clone, Copy)]
 pub enum Derived {
     // the number of child entries
     Children(usize),
