@@ -14,9 +14,4 @@ pub mod RowWords
 pub mod Table
 pub mod Storing
 pub mod Bound
-pub mod Routines
 pub mod Taking
-pub mod Owning
-pub mod Apart
-pub mod Reading
-pub mod Lending

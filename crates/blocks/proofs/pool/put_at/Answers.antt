@@ -1,0 +1,16 @@
+-- `blocks::pool::put_at` meets its contract: a row stored where the search ended, or as `put` says. Assumes nothing.
+use Rattle.blocks.specs.Kinds.{meant_kind}
+use Rattle.blocks.specs.Pool.{pool_row}
+use Rattle.blocks.proofs.Storing.{stores-done}
+use Rattle.blocks.proofs.pool.put_at.Goals as goal
+
+pub returns-then-i-pool : goal.returns-then-i-pool
+returns-then-i-pool c =
+    record {
+      table =
+          rw c.store.ensures.table
+          (record {
+            at = λ g. stores-done c.args.pool.now (pool_row c.args.va (meant_kind c.args.kind) c.args.first c.args.count) c.args.i g
+                c.if-i-pool.true;
+          });
+    }

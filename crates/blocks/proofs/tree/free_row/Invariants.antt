@@ -1,0 +1,10 @@
+-- `blocks::tree::free_row` meets its contract: the rows that the loop has passed are used. Assumes nothing.
+use Prim.Native.Nat.{◌-◌}
+use Rattle.blocks.proofs.Descending.{Sought}
+use Rattle.blocks.proofs.tree.free_row.Given as goal
+
+abbrev pub invariant-loop-i : goal.invariant-loop-i
+invariant-loop-i l = Sought l.pool l.taken l.i
+
+abbrev pub decreases-loop-i : goal.decreases-loop-i
+decreases-loop-i l = l.i
