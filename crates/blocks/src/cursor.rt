@@ -8,7 +8,7 @@ ghost use Rattle.blocks.specs.Cursor.{cursor_at, read_by, taken, skipped, unmark
 
 use format::{Refusal, Words3, Words4};
 
-#[derive(Drop)]
+#[derive(Clone, Copy)]
 pub struct Cursor<'a> {
     // the bytes of one half of a section
     data: &'a [u8],
