@@ -1,0 +1,16 @@
+-- `read_bones::bone::new_name` meets its contract. Assumes nothing.
+use Rattle.read_bones.proofs.Names.{new_name-refused, new_name-full, new_name-done}
+use Rattle.read_bones.proofs.bone.new_name.Goals as goal
+
+pub returns-in-Done : goal.returns-in-Done
+returns-in-Done c =
+    new_name-done _ _ c.name_at-n.ensures.answer _ c.in-At.is
+    (c.put_at.ensures.table.at c.requires) c.in-Done.is
+
+pub returns-in-Full : goal.returns-in-Full
+returns-in-Full c =
+    new_name-full _ _ c.name_at-n.ensures.answer _ c.in-At.is
+    (c.put_at.ensures.table.at c.requires) c.in-Full.is
+
+pub returns-in-Refused : goal.returns-in-Refused
+returns-in-Refused c = new_name-refused _ _ c.name_at-n.ensures.answer _ c.in-Refused.is

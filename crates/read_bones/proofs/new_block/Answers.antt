@@ -1,0 +1,27 @@
+-- `read_bones::new_block` meets its contract. Assumes nothing.
+use Rattle.read_bones.proofs.Blocks.{block_no_header, block-bones-refused, block-full, block-done}
+use Rattle.read_bones.proofs.new_block.Goals as goal
+
+pub returns-in-Refused : goal.returns-in-Refused
+returns-in-Refused c =
+    block_no_header _ c.args.pointer c.args.n c.args.used c.requires
+    c.header_at-h.ensures _ _
+    c.in-Refused.is
+
+pub returns-in-Done-put : goal.returns-in-Done-put
+returns-in-Done-put c =
+    block-done _ c.args.pointer c.args.n c.args.used c.requires c.header_at-h.ensures _ _
+    c.in_default.is c.read_bones-s.ensures c.in-Done.is
+    c.put.ensures.table c.in-Done-put.is
+
+pub returns-in-Full : goal.returns-in-Full
+returns-in-Full c =
+    block-full _ c.args.pointer c.args.n c.args.used c.requires c.header_at-h.ensures _ _
+    c.in_default.is c.read_bones-s.ensures c.in-Done.is
+    c.put.ensures.table c.in-Full.is
+
+pub returns-in-Refused-s : goal.returns-in-Refused-s
+returns-in-Refused-s c =
+    block-bones-refused _ c.args.pointer c.args.n c.args.used c.requires
+    c.header_at-h.ensures _ _
+    c.in_default.is c.read_bones-s.ensures c.in-Refused-s.is
