@@ -1,0 +1,23 @@
+-- `check_stages::chains_judged` meets its contract. Assumes nothing.
+use mathlib.Core.Path.{ap}
+use Rattle.derive_chains.specs.Tagging.{tagged_of}
+use Rattle.check_stages.proofs.Stages.{chains-refused, chains_differ, chains_same_lem}
+use mathlib.Core.Bool.{not}
+use Rattle.check_stages.proofs.chains_judged.Goals as goal
+
+pub returns-then-not-same_chains : goal.returns-then-not-same_chains
+returns-then-not-same_chains c =
+    record {
+      answer =
+          chains_differ _ _ _ _ _ _ (ap tagged_of c.in-Done.is) c.same_chains.ensures.answer (ap not c.if-not-same_chains.true);
+    }
+
+pub returns-in-Refused : goal.returns-in-Refused
+returns-in-Refused c = record { answer = chains-refused _ _ _ _ _ _ (ap tagged_of c.in-Refused.is) }
+
+pub returns-else-not-same_chains : goal.returns-else-not-same_chains
+returns-else-not-same_chains c =
+    record {
+      answer =
+          chains_same_lem _ _ _ _ _ _ (ap tagged_of c.in-Done.is) c.same_chains.ensures.answer (ap not c.if-not-same_chains.false);
+    }
