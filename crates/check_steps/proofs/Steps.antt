@@ -30,12 +30,11 @@ pub record Ended (v : Checked) : Type 0 where
   pub stays : (test : ℕ → Res (Unit {0})) → checked_of v ≡ behind (checked_of v) test
   pub clears : (t : Lent) → cleared_all t ≡ kept_by v t
 
--- by the case's number: 0 is Nothing, 2 is Refused
-pub ended : (v : Checked) → (tag_of the_type v ≡ 0) ⊎ (tag_of the_type v ≡ 2) → Ended v
+-- an answer that is no acceptance
+pub ended : (v : Checked) → ((n : ℕ) → v ≡ Accepted n → ⊥) → Ended v
 unfolding behind kept_by
 ended Nothing k = record { stays = λ test. refl; clears = λ t. refl }
-ended (Accepted n) (inl e) = absurd (omega (arith, e))
-ended (Accepted n) (inr e) = absurd (omega (arith, e))
+ended (Accepted n) k = absurd (k n refl)
 ended (Refused x) k = record { stays = λ test. refl; clears = λ t. refl }
 
 pub tables_stay : {v : Checked} {n : ℕ} → v ≡ Accepted n → (t : Lent) → t ≡ kept_by v t
