@@ -1,0 +1,35 @@
+-- `write::block::put_bones` meets its contract. The loop's invariant: the rows from p on are left. Assumes nothing.
+use Prim.Native.Nat.{◌-◌}
+use native.Mathlib.Omega.{arith}
+use Rattle.write.proofs.Bones.{boning_none, boning_short, boning_small, boning_room, boning_more, boning_all}
+use Rattle.write.proofs.block.put_bones.Goals as goal
+
+pub loop-p-init : goal.loop-p-init
+loop-p-init c = boning_none _ _ _ _ _
+
+pub name_bytes-size-requires : goal.name_bytes-size-requires
+name_bytes-size-requires c = boning_short c.requires c.loop-p.invariant c.loop-p-test.true c.row_in-row.ensures.part
+
+pub pointer-requires : goal.pointer-requires
+pointer-requires c = omega (
+  arith,
+  boning_small c.requires c.loop-p.invariant c.loop-p-test.true c.row_in-row.ensures.part c.name_bytes-size.ensures.answer,
+)
+
+pub put_bone-requires : goal.put_bone-requires
+put_bone-requires c = boning_room c.requires c.loop-p.invariant c.loop-p-test.true c.row_in-row.ensures.part
+
+pub overflow_add-name : goal.overflow_add-name
+overflow_add-name c = record {
+  fits = omega (
+    arith,
+    boning_small c.requires c.loop-p.invariant c.loop-p-test.true c.row_in-row.ensures.part c.name_bytes-size.ensures.answer,
+  );
+}
+
+pub loop-p-preserved : goal.loop-p-preserved
+loop-p-preserved c = boning_more c.requires
+    c.loop-p.invariant c.loop-p-test.true c.row_in-row.ensures.part c.name_bytes-size.ensures.answer c.pointer.ensures.answer c.put_bone.ensures.bytes
+
+pub returns : goal.returns
+returns c = record { bytes = boning_all c.loop-p.invariant c.loop-p-test.false }

@@ -1,0 +1,11 @@
+-- `write::words::put_halves` meets its contract: the run stands. Assumes nothing.
+use mathlib.Core.Path.{◌∙◌}
+use Rattle.fields.proofs.RunLaws.{stored-stands}
+use Rattle.write.proofs.words.put_halves.Goals as goal
+
+pub returns : goal.returns
+returns c =
+    record {
+      bytes =
+          c.put_halves.ensures.bytes ∙ stored-stands 2 c.args.h.now c.args.d.now c.args.at c.requires;
+    }
