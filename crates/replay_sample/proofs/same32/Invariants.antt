@@ -1,0 +1,13 @@
+-- `replay_sample::same32` meets its contract: the laws of comparing, at a width of 4 bytes. Assumes nothing.
+use Prim.Native.Nat.{◌-◌}
+use lib.ListN.{length}
+use Rattle.format.specs.Rows.{laid}
+use Rattle.replay_sample.specs.Parts.{numbers}
+use Rattle.replay_sample.proofs.Same.{Passed}
+use Rattle.replay_sample.proofs.same32.Given as goal
+
+abbrev pub invariant-loop-i : goal.invariant-loop-i
+invariant-loop-i l = Passed l.t (laid (numbers 4 l.e) (length l.t)) l.i
+
+abbrev pub decreases-loop-i : goal.decreases-loop-i
+decreases-loop-i l = length l.t - l.i

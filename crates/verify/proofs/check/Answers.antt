@@ -1,0 +1,102 @@
+-- `verify::check` meets its contract: the calls in their order, each place from the next. Assumes nothing.
+use mathlib.Core.Path.{◌∙◌}
+use Rattle.blocks.specs.Places.{section}
+use Rattle.read.specs.Lent.{lent}
+use Rattle.tables.specs.Working.{working}
+use Rattle.verify.proofs.Whole.{check-whole}
+use Rattle.verify.proofs.check.Goals as goal
+
+pub shape_of-bones : goal.shape_of-bones
+shape_of-bones c =
+    c.settle.auto.bones ∙ c.read-r.auto.bones
+
+pub shape_of-buckets : goal.shape_of-buckets
+shape_of-buckets c =
+    c.settle.auto.buckets ∙ c.read-r.auto.buckets
+
+pub shape_of-entries : goal.shape_of-entries
+shape_of-entries c =
+    c.settle.auto.entries ∙ c.read-r.auto.entries
+
+pub shape_of-inverse : goal.shape_of-inverse
+shape_of-inverse c =
+    c.settle.auto.inverse ∙ c.read-r.auto.inverse
+
+pub shape_of-local : goal.shape_of-local
+shape_of-local c =
+    c.settle.auto.local ∙ c.read-r.auto.local
+
+pub shape_of-parents : goal.shape_of-parents
+shape_of-parents c =
+    c.settle.auto.parents ∙ c.read-r.auto.parents
+
+pub shape_of-children : goal.shape_of-children
+shape_of-children c =
+    c.settle.auto.children ∙ c.read-r.auto.children
+
+pub shape_of-pool : goal.shape_of-pool
+shape_of-pool c =
+    c.settle.auto.pool ∙ c.read-r.auto.pool
+
+pub shape_of-derived_buckets : goal.shape_of-derived_buckets
+shape_of-derived_buckets c =
+    c.chains_step-c.auto.derived_buckets
+
+pub shape_of-derived_entries : goal.shape_of-derived_entries
+shape_of-derived_entries c =
+    c.chains_step-c.auto.derived_entries
+
+pub shape_of-derived_inverse : goal.shape_of-derived_inverse
+shape_of-derived_inverse c =
+    c.matrices_step-m.auto.derived_inverse
+
+pub shape_of-derived_local : goal.shape_of-derived_local
+shape_of-derived_local c =
+    c.matrices_step-m.auto.derived_local
+
+pub shape_of-derived_parents : goal.shape_of-derived_parents
+shape_of-derived_parents c =
+    c.indices_step-i.auto.derived_parents
+
+pub shape_of-derived_children : goal.shape_of-derived_children
+shape_of-derived_children c =
+    c.indices_step-i.auto.derived_children
+
+pub shape_of-pending : goal.shape_of-pending
+shape_of-pending c =
+    c.indices_step-i.auto.pending
+
+pub returns : goal.returns
+returns c =
+    record {
+      checked =
+          check-whole (section c.args.sys.now c.args.gfx.now) (
+            λ j. (c.type_inv.sys j).fits,
+            λ j. (c.type_inv.gfx j).fits,
+          ) _
+          (lent c.args.bones.now c.args.buckets.now c.args.entries.now c.args.inverse.now c.args.local.now c.args.parents.now c.args.children.now c.args.pool.now)
+          (lent c.read-r.new.bones c.read-r.new.buckets c.read-r.new.entries c.read-r.new.inverse c.read-r.new.local c.read-r.new.parents c.read-r.new.children c.read-r.new.pool)
+          (lent c.settle.new.bones c.settle.new.buckets c.settle.new.entries c.settle.new.inverse c.settle.new.local c.settle.new.parents c.settle.new.children c.settle.new.pool)
+          (working c.args.derived_buckets.now c.args.derived_entries.now c.args.derived_inverse.now c.args.derived_local.now c.args.derived_parents.now c.args.derived_children.now c.args.pending.now)
+          (working c.chains_step-c.new.derived_buckets c.chains_step-c.new.derived_entries c.matrices_step-m.new.derived_inverse c.matrices_step-m.new.derived_local c.indices_step-i.new.derived_parents c.indices_step-i.new.derived_children c.indices_step-i.new.pending)
+          c.read-r.ensures.tables (record {
+            bones = c.read-r.auto.bones;
+            buckets = c.read-r.auto.buckets;
+            entries = c.read-r.auto.entries;
+            inverse = c.read-r.auto.inverse;
+            local = c.read-r.auto.local;
+            parents = c.read-r.auto.parents;
+            children = c.read-r.auto.children;
+            pool = c.read-r.auto.pool;
+          }) c.count_parts-k.ensures.answer c.begin-b.result c.chains_step-c.result c.indices_step-i.result c.matrices_step-m.result c.settle.result
+          c.begin-b.ensures.answer c.chains_step-c.ensures.answer c.indices_step-i.ensures.answer c.matrices_step-m.ensures.answer c.settle.ensures.answer c.settle.ensures.tables
+          (record {
+            buckets = c.chains_step-c.ensures.work.0;
+            entries = c.chains_step-c.ensures.work.1;
+            inverse = c.matrices_step-m.ensures.work.0;
+            local = c.matrices_step-m.ensures.work.1;
+            parents = c.indices_step-i.ensures.work.0;
+            children = c.indices_step-i.ensures.work.1;
+            pending = c.indices_step-i.ensures.work.2;
+          });
+    }
