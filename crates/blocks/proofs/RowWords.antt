@@ -1,13 +1,13 @@
 -- What the words of the rows hold after a row is stored (`with_row`), and after a link is set (`relinked`). Assumes nothing.
-use mathlib.Core.Path.{◌≡◌, refl, sym, ap, ◌∙◌}
+use mathlib.Core.Path.{◌≡◌, sym, ap, ◌∙◌}
 use mathlib.Core.List.{List}
 use mathlib.Core.Logic.{⊎_elim}
-use Prim.Native.Nat.{ℕ, zero, suc, ◌+◌, ◌*◌, ◌<◌, ◌≤◌}
+use Prim.Native.Nat.{ℕ, suc, ◌+◌, ◌*◌, ◌<◌}
 use native.Mathlib.Omega.{arith}
 use lib.ListN.{length, get_or, set, length-set}
 use lib.Seq.{get_or-set_same, get_or-set_other}
-use Rattle.format.specs.Tables.{Kind, rows, Pooled, pooled}
-use Rattle.blocks.specs.Kinds.{kind_code, kind_from}
+use Rattle.format.specs.Tables.{Pooled}
+use Rattle.blocks.specs.Kinds.{kind_code}
 use Rattle.blocks.specs.Tree.{kind_in, link_in, with_kind, with_link}
 use Rattle.blocks.specs.Hashed.{pool_rows, code_at, key, links, val, with_row, relinked}
 use Rattle.blocks.proofs.Codes.{kind_code_pos, kind_code_lt, kind_from-kind_code}

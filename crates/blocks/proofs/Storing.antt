@@ -4,17 +4,17 @@ use mathlib.Core.Path.{◌≡◌, refl, sym, ap, subst, ◌∙◌}
 use mathlib.Core.Option.{none, some}
 use mathlib.Core.List.{List, [], ◌∷◌, ◌++◌}
 use mathlib.Core.Logic.{⊎_elim}
-use Prim.Native.Nat.{ℕ, suc, ◌+◌, ◌*◌, ◌/◌, ◌-◌, ◌<◌, ◌≤◌}
+use Prim.Native.Nat.{ℕ, suc, ◌+◌, ◌*◌, ◌/◌, ◌-◌, ◌<◌}
 use native.Mathlib.Omega.{arith}
 use borrow.Author.Tests.{lt-ltb, le-ltb}
 use lib.ListN.{length, get_or, length-append}
 use Rattle.format.specs.Result.{Res, refused, done, ◌>>=◌}
-use Rattle.format.specs.Tables.{Kind, Rows, rows, Pooled, pooled, Tables, Room, with_pool, find, replace, put}
+use Rattle.format.specs.Tables.{Kind, Rows, Pooled, pooled, Tables, Room, with_pool, find, replace, put}
 use Rattle.blocks.specs.declared.pool.Found.{Found}
 use Rattle.blocks.specs.declared.pool.Stored.{Stored}
 use Rattle.blocks.specs.declared.pool.Stored.TheVariants.{Done, Full}
 use Rattle.blocks.specs.Tree.{linkable}
-use Rattle.blocks.specs.Hashed.{pool_rows, key, links, val, path_in, HashHolds, Represents, NearPassed, PathMissed, PathLeft, FreeAt}
+use Rattle.blocks.specs.Hashed.{pool_rows, key, links, val, path_in, HashHolds, Represents, NearPassed, PathLeft, FreeAt}
 use Rattle.blocks.specs.Hashed.{PathFound, PlacedAt, near, along, untaken, beyond}
 use Rattle.blocks.specs.Hashed.{with_row, relinked, with_links, Linked}
 use Rattle.blocks.specs.Pool.{meant_found, meant_stored, enter, Finds, Left, Entered, Stores}

@@ -18,8 +18,8 @@ use Rattle.blocks.specs.declared.pool.Found.{Found}
 use Rattle.blocks.specs.declared.pool.Found.TheVariants.{Nothing as nothing-found, At as found_at}
 use Rattle.blocks.specs.declared.pool.Cached.{Cached}
 use Rattle.blocks.specs.declared.pool.Cached.TheVariants.{Nothing as nothing-cached, At as cached-at, Refused}
-use Rattle.blocks.specs.Tree.{kind_in, link_in, linkable, below, onward, path_at}
-use Rattle.blocks.specs.Hashed.{pool_rows, code_at, key, links, val, used, path_in, HashHolds, Represents, PlacedAt}
+use Rattle.blocks.specs.Tree.{kind_in, link_in, linkable, path_at}
+use Rattle.blocks.specs.Hashed.{pool_rows, code_at, key, links, val, used, HashHolds, Represents, PlacedAt}
 use Rattle.blocks.specs.Hashed.{near, along, untaken, beyond, Reaches}
 use Rattle.blocks.specs.Hashed.Reaches.{near as reaches-near, along as reaches-along, beyond as reaches-beyond}
 use Rattle.blocks.specs.Pool.{meant_found, meant_cached, Finds, FindsAs}

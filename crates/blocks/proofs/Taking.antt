@@ -10,7 +10,6 @@ use lib.ListN.{length, get_or}
 use Rattle.format.specs.Field.{value_of, stands, or_zero, field_at}
 use Rattle.fields.proofs.Laws.{field-suc, field_at-stands, field_at_outside, test_true}
 use Rattle.blocks.specs.Cursor.{saturating_add, after_read, word_within}
-use Rattle.blocks.specs.declared.cursor.After.{After}
 
 pub byte_inside : (s : List ℕ) (at : ℕ) → at < length s → get_or s at 0 ≡ field_at 1 s at
 unfolding value_of

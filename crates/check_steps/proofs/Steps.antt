@@ -1,11 +1,8 @@
 -- The ways out of the steps: an answer that is no acceptance stays, a test goes on from an acceptance. Assumes nothing.
 use Prim.Native.Nat.{ℕ}
-use native.Mathlib.Omega.{arith}
 use mathlib.Core.Path.{◌≡◌, refl, sym, ap, ◌∙◌}
-use mathlib.Core.Logic.{◌⊎◌, inl, inr}
 use mathlib.Core.Bool.{Bool, true, false}
 use mathlib.Core.Option.{some}
-use denote.Enum.Declared.{tag_of}
 use Rattle.format.specs.Result.{Res, refused, done}
 use Rattle.format.specs.Refusal.{number}
 use Rattle.format.specs.declared.Refusal.{Refusal}
@@ -22,7 +19,6 @@ use Rattle.read.specs.Parts.{part_rows}
 use Rattle.check_steps.specs.declared.Counts.{Counts}
 use Rattle.check_steps.specs.declared.Checked.{Checked}
 use Rattle.check_steps.specs.declared.Checked.TheVariants.{Nothing, Accepted, Refused}
-use Rattle.check_steps.specs.contracts.Checked.{the_type}
 
 -- ---- an answer that is an acceptance, or not
 

@@ -12,7 +12,7 @@ use borrow.Author.Tests.{le-leb, lt-leb, leb-true, not-true, not-false}
 use lib.Dec.{leb}
 use lib.ListN.{length, get_or, take, drop, set, length-append, drop_of_length-le, length-drop}
 use lib.Seq.{take-add, take_all, get_or-take, get_or-drop, drop-cons, drop-drop, sets, length-sets, length-take-le}
-use Rattle.format.specs.Field.{field_at, stands, which_list, words, bytes, word_bytes}
+use Rattle.format.specs.Field.{field_at, which_list, words, bytes, word_bytes}
 use Rattle.format.proofs.Fields.{length-bytes}
 use Rattle.fields.specs.Placed.{placed_of}
 use Rattle.fields.specs.Runs.{loaded, stored, copied}

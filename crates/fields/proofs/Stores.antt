@@ -8,7 +8,6 @@ use native.Mathlib.Nat.{add-zero, add-suc, suc-add}
 use native.Mathlib.Omega.{arith}
 use lib.ListN.{length, set, take, drop, length-drop, take-append-drop}
 use lib.Seq.{sets, sets-eq, take_at, drop_at, drop-drop, take-set-le, drop-set-lt, drop-set-add, length-take-le}
-use Rattle.format.specs.Field.{bytes}
 
 -- ---- a run of stores
 

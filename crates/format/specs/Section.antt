@@ -1,6 +1,6 @@
 -- A section is its system and its graphics bytes; an address leads into one of the two halves (docs/FORMAT.md, "Finding bytes").
 -- Definitions only.
-use Rattle.std.specs.Prelude.{ℕ, zero, suc, ◌+◌, ◌-◌, ◌/◌, ◌%◌, Bool, true, false, List, [], ◌∷◌, length, take, drop, leb, eqb}
+use Rattle.std.specs.Prelude.{ℕ, zero, suc, ◌+◌, ◌/◌, ◌%◌, Bool, true, false, List, [], ◌∷◌, length, take, drop, leb, eqb}
 use Rattle.format.specs.Result.{Res, refused, done, ◌>>=◌, need}
 
 pub record Section : Type 0 where

@@ -13,15 +13,13 @@ use lib.Dec.{leb}
 use lib.ListN.{length, get_or, take, drop, length-drop, take-append-drop}
 use lib.Seq.{get_or-drop, length-take-le, take_at}
 use Rattle.format.specs.Result.{Res, refused, done}
-use Rattle.format.specs.Field.{Each, bytes, words, word_bytes}
+use Rattle.format.specs.Field.{Each, words, word_bytes}
 use Rattle.format.specs.Bone.{Words3}
 use Rattle.format.specs.Rows.{lower}
 use Rattle.format.specs.Layout.{base}
 use Rattle.format.specs.Joints.{rotation_slots, rotation_limit, rotation_row, rotation_written}
 use Rattle.format.specs.Joints.{translation_slots, translation_limit, translation_row}
 use Rattle.format.specs.Joints.{translation_written, three_words, three_at, placed, ids_fit, joints_layout, limit_rows}
-use Rattle.format.specs.Joints.{limits}
-use Rattle.blocks.specs.Places.{section}
 use Rattle.format.proofs.Fields.{value_of_lt, bytes-value_of}
 use Rattle.fields.proofs.Laws.{le-or-lt}
 use Rattle.fields.proofs.WordLists.{Fit, length-words}

@@ -14,7 +14,7 @@ use Rattle.format.specs.Records as format
 use Rattle.format.specs.Records.{header}
 use Rattle.format.specs.Rows.{laid, cleared, bone_words, entry_words, table_words}
 use Rattle.format.specs.Tables.{inverse_table, local_table, parents_table, children_table, skeleton}
-use Rattle.format.specs.Tables.{Rows, rows, pooled, SkeletonRow, Tables, tables, Room, no_rows}
+use Rattle.format.specs.Tables.{Rows, rows, pooled, SkeletonRow, Tables, Room, no_rows}
 use Rattle.format.specs.Tables.{with_pool, with_bones, add_skeleton, put}
 use Rattle.format.specs.Read.{Step, read_bucket_array, read_bones_at, read_list, keep_columns, skeleton_row, read_new_skeleton}
 use Rattle.tables.proofs.Laid.{laid_none}

@@ -8,7 +8,6 @@ use lib.Seq.{sets, length-sets, take-append-le}
 use Rattle.format.specs.Section.{Place}
 use Rattle.format.specs.Bone.{Bone, Words4, words4, keeping}
 use Rattle.format.specs.Chains.{up_from}
-use Rattle.format.specs.Tables.{rows}
 use Rattle.format.specs.Records.{column_words}
 use Rattle.format.specs.Rows.{laid, bone_width, bone_words}
 use Rattle.format.specs.Read.{alter, take_columns}

@@ -14,7 +14,7 @@ use lib.ListN.{length, length-append, length-replicate}
 use lib.Seq.{sets, length-sets}
 use Rattle.format.specs.Result.{done, ◌>>=◌, need}
 use Rattle.format.specs.Deriving.{EntryRow, entry_row}
-use Rattle.format.specs.Tables.{Kind, entry, buckets, Rows, rows, Pooled, pooled, Tables, Room, no_rows}
+use Rattle.format.specs.Tables.{Kind, entry, Rows, rows, Pooled, pooled, Tables, Room, no_rows}
 use Rattle.format.specs.Tables.{with_pool, add_entry, find, as_kind, same_kind}
 use Rattle.format.specs.Rows.{laid, cleared, entry_words}
 use Rattle.tables.proofs.Laid.{laid_none, sets-laid}

@@ -14,14 +14,12 @@ use Rattle.format.specs.declared.Refusal.{Refusal}
 use Rattle.format.specs.declared.Refusal.TheVariants.{TableTooShort}
 use Rattle.format.specs.Field.{field_at, words}
 use Rattle.format.specs.Section.{Section}
-use Rattle.format.specs.Tables.{buckets, rows, Tables, Room, add_bucket}
+use Rattle.format.specs.Tables.{Tables, Room, add_bucket}
 use Rattle.format.specs.Rows.{laid}
 use Rattle.format.specs.Read.{read_head, read_buckets}
 use Rattle.format.proofs.Fields.{length-words, words_at_lem}
 use Rattle.fields.proofs.Laws.{field_at-stands}
 use Rattle.tables.proofs.Laid.{sets-laid}
-use Rattle.blocks.specs.declared.places.Located.TheVariants.{Refused}
-use Rattle.blocks.specs.declared.pool.Stored.TheVariants.{Done}
 use Rattle.read_chains.specs.Lent.{HoldsEntries, HoldsChains, Comes}
 use Rattle.read_chains.specs.Entries.{Headed, ReadsHead}
 use Rattle.read_chains.specs.Arrays.{ReadsBucket, ReadsPointers}

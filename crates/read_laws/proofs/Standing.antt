@@ -7,7 +7,7 @@ use mathlib.Core.Option.{Option, none, some}
 use mathlib.Core.List.Memᴰ
 use mathlib.Core.List.{[], Memᴰ}
 use lib.ListN.{length}
-use Rattle.format.specs.Result.{done, ◌>>=◌}
+use Rattle.format.specs.Result.{done}
 use Rattle.format.specs.Field.{words}
 use Rattle.format.specs.Section.{Section, part}
 use Rattle.format.specs.Tables.{ListTable, inverse_table, local_table, parents_table, children_table}

@@ -10,7 +10,7 @@ use lib.ListN.{length, get_or, take, drop, set, length-set, length-append, lengt
 use lib.Seq.{get_or-take, get_or-set_same, get_or-set_other, ext_get_or, length-take-le}
 use borrow.Author.Tests.{le-leb, lt-leb, eq-eqb, ne_eqb}
 use borrow.Author.Count.{below_none, below_more}
-use Rattle.format.specs.Field.{field_at, stands, or_zero, which_list}
+use Rattle.format.specs.Field.{field_at, or_zero, which_list}
 use Rattle.format.specs.Rows.{laid}
 use Rattle.format.proofs.Fields.{words_at_lem, length-words}
 use Rattle.replay_sample.specs.Parts.{part_of, numbers}

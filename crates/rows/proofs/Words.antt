@@ -9,7 +9,6 @@ use Rattle.format.specs.Section as section
 use Rattle.format.specs.Rows.{place_words, two_words, place_of}
 use Rattle.rows.specs.Row.{row_words}
 use Rattle.rows.specs.Value.{our_place}
-use Rattle.format.specs.declared.Place.{Place}
 
 -- ---- one word of a row
 

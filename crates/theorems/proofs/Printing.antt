@@ -18,7 +18,7 @@ use Rattle.format.specs.Tables.{Rows, SkeletonRow, Tables, skeleton, no_rows, Ro
 use Rattle.format.specs.Read.{read_new_skeleton, skeleton_from, read_skeleton}
 use Rattle.format.specs.Layout.{Bytes, base}
 use Rattle.format.specs.Check.{read_of, read_from, verdict, read, check_from, check}
-use Rattle.format.specs.Program.{program_room, program_derive_room, digits_onto, line, report, printed}
+use Rattle.format.specs.Program.{program_room, program_derive_room, digits_onto, report, printed}
 use Rattle.format.specs.CallRefusals.{check_refusals, one_of}
 use Rattle.format.proofs.Results.{gone}
 use Rattle.format.proofs.CallRefusals.{call_refusals}

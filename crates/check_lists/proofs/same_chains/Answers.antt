@@ -1,7 +1,6 @@
 -- `check_lists::same_chains` meets its contract: the chains of the buckets that the loop has passed are alike. Assumes nothing.
 use borrow.Author.Tests.{not-true, not-false}
 use mathlib.Core.Path.{sym, ◌∙◌}
-use Prim.Native.Nat.{◌-◌}
 use Rattle.check_lists.proofs.Comparing.{agree_lengths, agree_start, agree_differ, agree_more, agree_all}
 use Rattle.check_lists.proofs.Entries.{same_buckets_lem}
 use mathlib.Core.Path.{ap}

@@ -1,6 +1,5 @@
 -- `check_lists::same_halves` meets its contract: the words that the loop has passed are equal. Assumes nothing.
 use borrow.Author.Tests.{eq-eqb, ne_eqb}
-use Prim.Native.Nat.{◌-◌}
 use lib.Dec.{eqb}
 use Rattle.check_lists.proofs.Comparing.{agree_lengths, agree_start, agree_differ, agree_more, agree_all}
 use Rattle.check_lists.proofs.same_halves.Goals as goal

@@ -1,7 +1,7 @@
 -- `hash::rage_joaat` meets its contract (docs/FORMAT.md, "Joints and names"). The loop's invariant: the hash so far, gone on over
 -- the
 -- bytes that are left, is the hash of all. Assumes nothing.
-use Rattle.std.proofs.Common.{◌≡◌, ℕ, ◌+◌, ◌-◌, ◌*◌, ◌/◌, ◌%◌, ◌^◌, ◌<◌, ◌≤◌, List, length, get_or, drop, refl, ◌∙◌, add-one, arith, drop-cons, rules}
+use Rattle.std.proofs.Common.{◌≡◌, ℕ, ◌+◌, ◌*◌, ◌/◌, ◌%◌, ◌^◌, ◌<◌, ◌≤◌, List, length, get_or, drop, refl, ◌∙◌, add-one, arith, drop-cons, rules}
 use lib.Bits.{bit_xor}
 use lib.Seq.{drop-length}
 use Rattle.format.specs.Hash.{mix, rage_joaat}

@@ -2,7 +2,6 @@
 -- whole walk does. Assumes nothing.
 use mathlib.Core.Path.{refl, ◌∙◌}
 use native.Mathlib.Omega.{arith}
-use Rattle.format.specs.Lookup as Definitions
 use Rattle.lookup.proofs.Walking.{follow-end, follow_long, follow-found, follow-next, follow-refused}
 use Rattle.lookup.proofs.follow.Goals as goal
 

@@ -1,6 +1,6 @@
 -- `read_bones::read_bones` meets its contract.
 -- The loop's invariant: i bones are read, each in the next row. Assumes nothing.
-use Rattle.std.proofs.Common.{◌-◌, rules}
+use Rattle.std.proofs.Common.{rules}
 use Rattle.read_bones.proofs.Stretches.{going_none, going_more, going_refused, going_all}
 use Rattle.read_bones.proofs.read_bones.Goals as goal
 

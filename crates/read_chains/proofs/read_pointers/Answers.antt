@@ -1,5 +1,4 @@
 -- `read_chains::read_pointers` meets its contract: `Bucketing` holds at each turn. Assumes nothing.
-use Prim.Native.Nat.{◌-◌}
 use Rattle.read_chains.proofs.Pointers.{bucketing_none, bucketing_all, bucketing_lost, bucketing_more}
 use Rattle.read_chains.proofs.read_pointers.Goals as goal
 

@@ -1,5 +1,4 @@
 -- `replay_sample::load32` meets its contract. Assumes nothing.
-use Prim.Native.Nat.{◌-◌}
 use Rattle.replay_sample.proofs.Numbers.{loaded-none, loaded-more, loaded-all}
 use Rattle.replay_sample.proofs.load32.Goals as goal
 

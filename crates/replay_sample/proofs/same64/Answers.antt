@@ -1,5 +1,5 @@
 -- `replay_sample::same64` meets its contract: the laws of comparing, at a width of 8 bytes. Assumes nothing.
-use Prim.Native.Nat.{◌-◌, ◌/◌}
+use Prim.Native.Nat.{◌/◌}
 use lib.ListN.{length}
 use Rattle.replay_sample.specs.Parts.{numbers}
 use Rattle.replay_sample.proofs.Numbers.{length-numbers}

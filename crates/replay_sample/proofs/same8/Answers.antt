@@ -1,5 +1,4 @@
 -- `replay_sample::same8` meets its contract. Assumes nothing.
-use Prim.Native.Nat.{◌-◌}
 use lib.ListN.{length}
 use mathlib.Core.Path.{refl}
 use Rattle.replay_sample.proofs.Same.{passed_none, differs_short, turn, differs, ends}

@@ -1,5 +1,4 @@
 -- `tables::clear32_from` meets its contract: `Filled` holds at each turn. Assumes nothing.
-use Prim.Native.Nat.{◌-◌}
 use Rattle.tables.proofs.Fill.{filled_none, filled_more, filled_all}
 use Rattle.tables.proofs.clear32_from.Goals as goal
 

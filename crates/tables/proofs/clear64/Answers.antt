@@ -1,5 +1,4 @@
 -- `tables::clear64` meets its contract: `Filled` holds at each turn. Assumes nothing.
-use Prim.Native.Nat.{◌-◌}
 use Rattle.tables.proofs.Fill.{filled_none, filled_more, filled_zero}
 use Rattle.tables.proofs.clear64.Goals as goal
 

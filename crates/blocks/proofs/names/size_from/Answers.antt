@@ -1,5 +1,4 @@
 -- `blocks::names::size_from` meets its contract: `Unended` holds at each turn. Assumes nothing.
-use Prim.Native.Nat.{◌-◌}
 use Rattle.blocks.proofs.Naming.{unended_none, unended_more, unended_zero, unended_past}
 use Rattle.blocks.proofs.names.size_from.Goals as goal
 

@@ -1,5 +1,4 @@
 -- `blocks::pool::scan` meets its contract: the rows that the loop has passed are other addresses'. Assumes nothing.
-use Prim.Native.Nat.{◌-◌}
 use Rattle.blocks.proofs.Scanning.{passed_none, passed-more, scanned-here, scanned-past}
 use Rattle.blocks.proofs.pool.scan.Goals as goal
 

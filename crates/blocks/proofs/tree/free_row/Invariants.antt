@@ -1,5 +1,4 @@
 -- `blocks::tree::free_row` meets its contract: the rows that the loop has passed are used. Assumes nothing.
-use Prim.Native.Nat.{◌-◌}
 use Rattle.blocks.proofs.Descending.{Sought}
 use Rattle.blocks.proofs.tree.free_row.Given as goal
 

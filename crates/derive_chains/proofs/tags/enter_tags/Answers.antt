@@ -1,5 +1,5 @@
 -- `derive_chains::tags::enter_tags` meets its contract. The loop's invariant: the positions below p are entered. Assumes nothing.
-use Prim.Native.Nat.{◌-◌, ◌≤◌, ◌<◌}
+use Prim.Native.Nat.{◌≤◌, ◌<◌}
 use native.Mathlib.Omega.{arith}
 use mathlib.Core.Path.{sym}
 use Rattle.format.specs.Section.{Place}

@@ -1,6 +1,5 @@
 -- `derive_children::index::first_children` meets its contract. The loop's invariant: the first children of the bones below b stand.
 -- Assumes nothing.
-use Prim.Native.Nat.{◌-◌}
 use native.Mathlib.Omega.{arith}
 use mathlib.Core.Path.{refl}
 use borrow.Author.Rules.{rules}

@@ -1,5 +1,4 @@
 -- `derive_children::indices::put_parents` meets its contract. The loop's invariant: the parents below p stand. Assumes nothing.
-use Prim.Native.Nat.{◌-◌}
 use Rattle.derive_children.proofs.Columns.{parents-none, parents-next, parents-all}
 use Rattle.derive_children.proofs.indices.put_parents.Goals as goal
 

@@ -1,6 +1,5 @@
 -- `derive_children::pile::push_roots` meets its contract. The loop's invariant: the roots from r on are on the pile. Assumes nothing.
 use native.Mathlib.Omega.{arith}
-use Rattle.derive_children.proofs.FirstChildren.{ready}
 use Rattle.derive_children.proofs.Pushing.{rooting_starts, rooting_turns, rooting_ends}
 use Rattle.derive_children.proofs.pile.push_roots.Goals as goal
 

@@ -1,8 +1,6 @@
 -- `derive_children::pile::put_layers` meets its contract. The loop's invariant: k layers stand, and what the pile still gives follows.
 -- Assumes nothing.
-use Prim.Native.Nat.{◌-◌}
 use native.Mathlib.Omega.{arith}
-use Rattle.derive_children.proofs.FirstChildren.{ready}
 use Rattle.derive_children.proofs.Layers.{running_starts, running_asks, running_turns, running_full, running_ends}
 use Rattle.derive_children.proofs.pile.put_layers.Goals as goal
 

@@ -1,6 +1,5 @@
 -- `derive_matrices::matrices::put_fours` meets its contract. The loop's invariant: the rows of the first p bones stand in front of what
 -- the table held behind. Assumes nothing.
-use Prim.Native.Nat.{◌-◌}
 use native.Mathlib.Omega.{arith}
 use Rattle.derive_matrices.proofs.Placing.{continues_none, continues_on}
 use Rattle.derive_matrices.proofs.matrices.put_fours.Goals as goal

@@ -1,6 +1,5 @@
 -- `derive_matrices::matrices::put_locals` meets its contract. The loop's invariant: the rows of the first p bones stand in front of what
 -- the table held behind. Assumes nothing.
-use Prim.Native.Nat.{◌-◌}
 use mathlib.Core.Path.{◌≡◌}
 use native.Mathlib.Omega.{arith}
 use Rattle.format.specs.Matrices.{local_of, locals}

@@ -1,6 +1,5 @@
 -- `derive_matrices::matrices::put_rest` meets its contract. The loop's invariant: where the rows below `from` stood, those below p stand.
 -- Assumes nothing.
-use Prim.Native.Nat.{◌-◌}
 use mathlib.Core.Path.{◌≡◌}
 use native.Mathlib.Omega.{arith}
 use Rattle.rows.proofs.Rows.{length-bones_of}

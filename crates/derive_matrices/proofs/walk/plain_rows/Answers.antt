@@ -1,5 +1,4 @@
 -- `derive_matrices::walk::plain_rows` meets its contract. The loop's invariant: the first p rows have no NaN. Assumes nothing.
-use Prim.Native.Nat.{◌-◌}
 use mathlib.Core.Path.{sym}
 use native.Mathlib.Omega.{arith}
 use borrow.Author.Count.{below_none, below_more}

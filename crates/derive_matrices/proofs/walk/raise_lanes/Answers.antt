@@ -1,7 +1,6 @@
 -- `derive_matrices::walk::raise_lanes` meets its contract. The loop's invariant: the lanes below i are a step further, and the others are
 -- as they were. Assumes nothing.
 use borrow.Author.Rules.{rules}
-use Prim.Native.Nat.{◌-◌}
 use native.Mathlib.Omega.{arith}
 use Rattle.derive_matrices.proofs.Lanes.{raising_none, raising_more, raising_all}
 use Rattle.derive_matrices.proofs.walk.raise_lanes.Goals as goal

@@ -1,6 +1,5 @@
 -- `derive_matrices::walk::side_by_side` meets its contract. The loop's invariant: each walk from here, with the steps that are left, ends
 -- where the whole walk ends. Assumes nothing.
-use Prim.Native.Nat.{◌-◌}
 use mathlib.Core.Path.{sym, ap, ◌∙◌}
 use native.Mathlib.Omega.{arith}
 use lib.ListN.{length}

@@ -1,9 +1,8 @@
 -- `derive_matrices::walk::walked` meets its contract. The loop's invariant: the walk from here, with the steps that are left, ends
 -- where the whole walk ends. Assumes nothing.
-use Prim.Native.Nat.{◌-◌}
 use mathlib.Core.Path.{refl, sym, ◌∙◌}
 use native.Mathlib.Omega.{arith}
-use borrow.Author.Tests.{ltb-true, ltb-false}
+use borrow.Author.Tests.{ltb-true}
 use Rattle.derive_matrices.proofs.Walking.{walk_turn, walk_spent, walk_outside, walk-negative}
 use Rattle.derive_matrices.proofs.walk.walked.Goals as goal
 

@@ -1,5 +1,4 @@
 -- `fields::runs::copy_run` meets its contract: `Put` holds at each turn. Assumes nothing.
-use Prim.Native.Nat.{◌-◌}
 use lib.ListN.{take, drop}
 use Rattle.fields.proofs.RunLaws.{put-none, put-more, put_all, part-word, length_part}
 use Rattle.fields.proofs.runs.copy_run.Goals as goal

@@ -1,5 +1,4 @@
 -- `fields::runs::load_all` meets its contract: `Put` holds at each turn. Assumes nothing.
-use Prim.Native.Nat.{◌-◌}
 use Rattle.fields.proofs.WordLists.{length-words}
 use Rattle.fields.proofs.RunLaws.{put-none, put-more, put_all, word-loaded}
 use Rattle.fields.proofs.runs.load_all.Goals as goal

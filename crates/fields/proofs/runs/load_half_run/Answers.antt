@@ -1,5 +1,4 @@
 -- `fields::runs::load_half_run` meets its contract: `Put` holds at each turn. Assumes nothing.
-use Prim.Native.Nat.{◌-◌}
 use lib.ListN.{drop}
 use Rattle.fields.proofs.WordLists.{length-words}
 use Rattle.fields.proofs.RunLaws.{put-none, put-more, put_all, half-loaded}

@@ -1,5 +1,4 @@
 -- `fields::runs::load_run` meets its contract: blocks, then the few words that are left. Assumes nothing.
-use Prim.Native.Nat.{◌-◌}
 use native.Mathlib.Omega.{arith}
 use lib.ListN.{drop}
 use Rattle.fields.proofs.WordLists.{length-words}

@@ -1,5 +1,4 @@
 -- `fields::runs::put_half_run` meets its contract. The loop's invariant: the numbers from the i-th on are left. Assumes nothing.
-use Prim.Native.Nat.{◌-◌}
 use Rattle.fields.proofs.RunLaws.{words-none, words_more, words-all}
 use Rattle.fields.proofs.runs.put_half_run.Goals as goal
 

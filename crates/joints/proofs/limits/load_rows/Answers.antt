@@ -1,5 +1,4 @@
 -- `joints::limits::load_rows` meets its contract: `Rows` holds at each turn. Assumes nothing.
-use Prim.Native.Nat.{◌-◌}
 use native.Mathlib.Omega.{arith}
 use Rattle.joints.proofs.RowLoops.{rows_none, rows-here, rows_more, rows_all}
 use Rattle.joints.proofs.limits.load_rows.Goals as goal

@@ -1,5 +1,4 @@
 -- `joints::limits::store_rows` meets its contract: `Records` holds at each turn. Assumes nothing.
-use Prim.Native.Nat.{◌-◌}
 use native.Mathlib.Omega.{arith}
 use Rattle.joints.proofs.RowLoops.{records-none, records-here, records-more, records-all}
 use Rattle.joints.proofs.limits.store_rows.Goals as goal

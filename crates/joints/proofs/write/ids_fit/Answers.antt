@@ -1,5 +1,4 @@
 -- `joints::write::ids_fit` meets its contract: `Ids` holds at each turn. Assumes nothing.
-use Prim.Native.Nat.{◌-◌}
 use native.Mathlib.Omega.{arith}
 use Rattle.joints.proofs.Ids.{ids_none, ids_wide, ids_more, ids_all}
 use Rattle.joints.proofs.write.ids_fit.Goals as goal

@@ -1,6 +1,6 @@
 -- `math::Mat4::words` meets its contract. The loop's invariant: sixteen words stand, and those below i are written.
 -- Assumes nothing.
-use Prim.Native.Nat.{ℕ, ◌<◌, ◌+◌, ◌-◌}
+use Prim.Native.Nat.{ℕ, ◌<◌, ◌+◌}
 use mathlib.Core.Path.{◌≡◌, refl, sym, ◌∙◌}
 use mathlib.Core.List.{List, map}
 use native.Mathlib.Omega.{arith}
@@ -53,8 +53,8 @@ pub returns : goal.returns
 returns c =
     record {
       answer =
-        let a = c in
-        let m = a.args.self in
-        let l : length m.0 ≡ 16 = search rules in
-        all m.0 a.loop-i.out (omega arith) (λ k q. a.loop-i.invariant.2 k (omega arith));
+          let a = c in
+          let m = a.args.self in
+          let l : length m.0 ≡ 16 = search rules in
+          all m.0 a.loop-i.out (omega arith) (λ k q. a.loop-i.invariant.2 k (omega arith));
     }

@@ -1,6 +1,6 @@
 -- `read_bones::columns::keep_columns` meets its contract.
 -- The loop's invariant: the rows passed have taken their columns. Assumes nothing.
-use Rattle.std.proofs.Common.{◌-◌, arith, ltb-true}
+use Rattle.std.proofs.Common.{arith, ltb-true}
 use Rattle.read_bones.proofs.Keeping.{keeping_none, keeping-more, keeping_no_matrix, keeping_all, keeping-no_row}
 use Rattle.read_bones.proofs.columns.keep_columns.Goals as goal
 

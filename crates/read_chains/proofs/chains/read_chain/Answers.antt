@@ -1,5 +1,4 @@
 -- `read_chains::chains::read_chain` meets its contract: `Chaining` holds at each turn. Assumes nothing.
-use Prim.Native.Nat.{◌-◌}
 use native.Mathlib.Omega.{arith}
 use mathlib.Core.Path.{ap}
 use Rattle.read_chains.specs.Lent.{entry_room}

@@ -1,5 +1,4 @@
 -- `search::named::first_named` meets its contract: a loop over the bones in order. Assumes nothing.
-use Prim.Native.Nat.{◌-◌}
 use Rattle.search.proofs.Going.{going_none, going_found, going_more, going_all}
 use Rattle.search.proofs.named.first_named.Goals as goal
 

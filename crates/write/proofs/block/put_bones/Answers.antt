@@ -1,5 +1,4 @@
 -- `write::block::put_bones` meets its contract. The loop's invariant: the rows from p on are left. Assumes nothing.
-use Prim.Native.Nat.{◌-◌}
 use native.Mathlib.Omega.{arith}
 use Rattle.write.proofs.Bones.{boning_none, boning_short, boning_small, boning_room, boning_more, boning_all}
 use Rattle.write.proofs.block.put_bones.Goals as goal

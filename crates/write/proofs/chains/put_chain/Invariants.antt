@@ -1,5 +1,4 @@
 -- `write::chains::put_chain` meets its contract. The loop's invariant: the entries from a link on are left. Assumes nothing.
-use Prim.Native.Nat.{◌-◌}
 use Rattle.write.proofs.Linked.{Chaining}
 use Rattle.write.proofs.chains.put_chain.Given as goal
 

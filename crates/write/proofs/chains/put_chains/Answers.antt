@@ -1,5 +1,4 @@
 -- `write::chains::put_chains` meets its contract. The loop's invariant: the buckets from b on are left. Assumes nothing.
-use Prim.Native.Nat.{◌-◌}
 use native.Mathlib.Omega.{arith}
 use Rattle.write.proofs.Linked.{buckets-none, pointer-room, chain-room, buckets-more, buckets-all}
 use Rattle.write.proofs.chains.put_chains.Goals as goal

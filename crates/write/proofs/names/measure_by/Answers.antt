@@ -1,6 +1,5 @@
 -- `write::names::measure_by` meets its contract. The loop's invariant: the names of the rows before p are good, and take
 -- `total` bytes. Assumes nothing.
-use Prim.Native.Nat.{◌-◌}
 use native.Mathlib.Omega.{arith}
 use borrow.Author.Tests.{not-true, not-false}
 use Rattle.write.proofs.Naming.{measuring_none, measuring_bad, measuring_short, measuring_more, measuring_all}

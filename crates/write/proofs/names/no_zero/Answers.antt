@@ -1,8 +1,5 @@
 -- `write::names::no_zero` meets its contract. Assumes nothing.
-use Prim.Native.Nat.{◌-◌}
 use native.Mathlib.Omega.{arith}
-use borrow.Author.Tests.{leb-true}
-use lib.ListN.{length}
 use Rattle.write.proofs.names.no_zero.Goals as goal
 
 pub no_zero_near-requires : goal.no_zero_near-requires

@@ -1,6 +1,5 @@
 -- `write::names::no_zero_near` meets its contract. The loop's invariant: the first i bytes are passed. Assumes nothing.
 use mathlib.Core.Path.{refl}
-use Prim.Native.Nat.{◌-◌}
 use Rattle.write.proofs.Naming.{passed_none, length_mask, near-more, near-all}
 use native.Mathlib.Omega.{arith}
 use Rattle.write.proofs.names.no_zero_near.Goals as goal

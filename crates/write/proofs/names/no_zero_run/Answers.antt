@@ -1,5 +1,4 @@
 -- `write::names::no_zero_run` meets its contract. The loop's invariant: the first i bytes are passed. Assumes nothing.
-use Prim.Native.Nat.{◌-◌}
 use Rattle.write.proofs.Naming.{passed_none, passed-more, passed-all}
 use Rattle.write.proofs.names.no_zero_run.Goals as goal
 

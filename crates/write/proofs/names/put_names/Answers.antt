@@ -1,5 +1,4 @@
 -- `write::names::put_names` meets its contract. The loop's invariant: the names of the rows from p on are left. Assumes nothing.
-use Prim.Native.Nat.{◌-◌}
 use Rattle.write.proofs.Naming.{naming-none, naming-room, naming-more, naming-all}
 use Rattle.write.proofs.names.put_names.Goals as goal
 

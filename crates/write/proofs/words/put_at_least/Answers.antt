@@ -1,8 +1,6 @@
 -- `write::words::put_at_least` meets its contract. Assumes nothing.
 use native.Mathlib.Omega.{arith}
-use borrow.Author.Tests.{leb-true}
-use Prim.Native.Nat.{◌-◌}
-use lib.ListN.{length, take, drop}
+use lib.ListN.{take, drop}
 use Rattle.fields.proofs.RunLaws.{length_part}
 use Rattle.write.proofs.Runs.{just_stored, more-stored}
 use Rattle.write.proofs.words.put_at_least.Goals as goal

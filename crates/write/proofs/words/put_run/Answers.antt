@@ -1,5 +1,4 @@
 -- `write::words::put_run` meets its contract. The loop's invariant: the first i bytes are stored. Assumes nothing.
-use Prim.Native.Nat.{◌-◌}
 use lib.ListN.{take, drop}
 use Rattle.fields.proofs.RunLaws.{put-none, put-more, put_all, part-word, length_part}
 use Rattle.write.proofs.words.put_run.Goals as goal

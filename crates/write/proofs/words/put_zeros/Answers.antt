@@ -1,5 +1,4 @@
 -- `write::words::put_zeros` meets its contract. The loop's invariant: i zeros are stored. Assumes nothing.
-use Prim.Native.Nat.{◌-◌}
 use Rattle.write.proofs.Runs.{zeros_none, zeros_more, zeros_all}
 use Rattle.write.proofs.words.put_zeros.Goals as goal
 
