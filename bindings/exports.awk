@@ -101,20 +101,20 @@ function print_rust(result,   i, line) {
 }
 
 /no_mangle/ {
-    if ($0 != "#[no_mangle]" || marked || open) fail("not understood: " $0)
+    if ($0 != "#[unsafe(no_mangle)]" || marked || open) fail("not understood: " $0)
     marked = 1
     next
 }
 
 /extern "C"/ {
-    if (!marked) fail("no #[no_mangle] in front of: " $0)
+    if (!marked) fail("no #[unsafe(no_mangle)] in front of: " $0)
     if (!sub(/^pub extern "C" fn /, "")) fail("not understood: " $0)
     marked = 0
     open = 1
     text = ""
 }
 
-marked && NF && !/^#\[/ { fail("no `pub extern \"C\" fn` behind #[no_mangle]: " $0) }
+marked && NF && !/^#\[/ { fail("no `pub extern \"C\" fn` behind #[unsafe(no_mangle)]: " $0) }
 
 # a signature ends where its contract or its body begins
 open && (/^ +(ensures|requires) / || /\{/) {

@@ -1,5 +1,5 @@
 /* The skeleton half of a rig exporter, for C and C++: reads, derives, writes, looks up in and checks the skeleton sections
- * that the game loads. Link librig.a (`rt staticlib rig`; x86-64 Linux) and the C library. What a call answers and leaves is proved
+ * that the game loads. Link librig.a (`rt lib` in crates/rig; x86-64 Linux) and the C library. What a call answers and leaves is proved
  * of the library; that these declarations fit it is not proved, but compared by bindings/exports and run by compare/c.
  *
  * What the caller must see to, since C cannot:

@@ -3,8 +3,8 @@
 use std::env;
 use std::path::{Path, PathBuf};
 
-/// Where `rt staticlib rig` leaves the library, from this folder.
-const BUILT: &str = "../../target/staticlib/librig.a";
+/// Where `rt lib` in `crates/rig` leaves the library, from this folder.
+const BUILT: &str = "../../crates/rig/out/librig.a";
 
 fn main() {
     println!("cargo::rerun-if-env-changed=RIG_LIBRARY");
@@ -32,7 +32,7 @@ fn folder(library: &Path) -> Result<&Path, String> {
     }
     if !library.is_file() {
         return Err(format!(
-            "{} is missing: run `rt staticlib rig` in the repository, or name the library in RIG_LIBRARY (an absolute path)",
+            "{} is missing: run `rt lib` in `crates/rig`, or name the library in RIG_LIBRARY (an absolute path)",
             library.display()
         ));
     }

@@ -23,7 +23,7 @@ fn agree(number: u32) {
     assert!(
         number == RIG_ABI,
         "librig.a is of another state than this crate: its exports have number {number}, those declared here {RIG_ABI}; \
-         `rt staticlib rig` builds it anew, and RIG_LIBRARY must name what it built"
+         `rt lib` in crates/rig builds it anew, and RIG_LIBRARY must name what it built"
     );
 }
 

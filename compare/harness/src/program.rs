@@ -24,7 +24,7 @@ pub const LONGEST: usize = 65_536;
 
 /// Where the program lies.
 pub fn path() -> PathBuf {
-    std::env::var_os("SKELETON_CHECK").map_or_else(|| "../target/bin/skeleton_check".into(), PathBuf::from)
+    std::env::var_os("SKELETON_CHECK").map_or_else(|| "../crates/skeleton_check/out/skeleton_check".into(), PathBuf::from)
 }
 
 /// The bytes on standard input.
