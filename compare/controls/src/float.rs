@@ -16,13 +16,13 @@ pub fn sheet() -> Sheet {
         s.define(name, applied("quat", &numbers.map(f32::to_bits)));
     }
     s.define("point", applied("vector", &POINT.map(f32::to_bits)));
-    s.define("matrix", format!("matrixOf ({})", words(&MATRIX)));
+    s.define("matrix", format!("matrix_of ({})", words(&MATRIX)));
     let Vec4 { x, y, z, w } = left.quat_mul(right);
-    s.published("multiplied", "vec4Words (quatMul left right)", words(&[x, y, z, w]));
+    s.published("multiplied", "vec4_words (quat_mul left right)", words(&[x, y, z, w]));
     let Vec3 { x, y, z } = left.quat_rotate(point);
-    s.published("rotated", "vec3Words (quatRotate left point)", words(&[x, y, z]));
-    s.published("placed", "matrixWords (fromQuatPos left point)", words(&Mat4::from_quat_pos(left, point).0));
-    s.published("inverted", "matrixWords (inverse matrix)", words(&Mat4(MATRIX).inverse().0));
+    s.published("rotated", "vec3_words (quat_rotate left point)", words(&[x, y, z]));
+    s.published("placed", "matrix_words (from_quat_pos left point)", words(&Mat4::from_quat_pos(left, point).0));
+    s.published("inverted", "matrix_words (inverse matrix)", words(&Mat4(MATRIX).inverse().0));
     s
 }
 

@@ -11,7 +11,7 @@ use oracle::{
     RotationLimit, TranslationLimit, Written, SYSTEM_BASE,
 };
 
-/// The rows of `rotationOf` and `translationOf`: limits of an id, whose words are all different.
+/// The rows of `rotation_of` and `translation_of`: limits of an id, whose words are all different.
 pub fn rotation_of(id: u32) -> Vec<u32> {
     [id].into_iter().chain(101..=106).chain(200..241).chain([6]).collect()
 }
@@ -29,35 +29,35 @@ pub fn limits() -> (RotationLimit, TranslationLimit) {
 pub fn sheet() -> Sheet {
     let mut s = Sheet::new("format/specs/JointsControls.antt");
     let (r, t) = limits();
-    s.define("rotationOf id", format!("record {{ {}; other = upFrom 200 41 }}", rotation("id", &r)));
-    s.define("rotation1", format!("rotationOf {}", r.id));
-    s.define("translationOf id", format!("record {{ {}; other = upFrom 300 9 }}", translation("id", &t)));
-    s.define("translation1", format!("translationOf {}", t.id));
+    s.define("rotation_of id", format!("record {{ {}; other = up_from 200 41 }}", rotation("id", &r)));
+    s.define("rotation1", format!("rotation_of {}", r.id));
+    s.define("translation_of id", format!("record {{ {}; other = up_from 300 9 }}", translation("id", &t)));
+    s.define("translation1", format!("translation_of {}", t.id));
     let words: Vec<u32> =
         joints_write(&[r], &[t]).section().chunks(4).map(|b| u32::from_le_bytes(b.try_into().expect("four bytes"))).collect();
-    s.published("laid", "jointsLayout (rotation1 ∷ []) (translation1 ∷ [])", format!("wordBytes 4 ({})", row(&words)));
+    s.published("laid", "joints_layout (rotation1 ∷ []) (translation1 ∷ [])", format!("word_bytes 4 ({})", row(&words)));
     let (bytes, offsets) = (joints_write(&[], &[]).section(), [16u32, 24]);
     let stored: Vec<u64> = offsets.iter().map(|&at| u64_at(&bytes, at as usize)).collect();
-    s.published("emptyLists", format!("map (field 8 (jointsLayout [] [])) ({})", numbers(&offsets)), numbers(&stored));
+    s.published("empty_lists", format!("map (field 8 (joints_layout [] [])) ({})", numbers(&offsets)), numbers(&stored));
     back(&mut s, r, t);
-    for (name, n) in [("fiftyTwo", 52), ("fiftyOne", 51)] {
-        s.published(name, format!("readJoints (halves (replicate {n} 0) []) 0 0 base"), read(&vec![0; n]));
+    for (name, n) in [("fifty_two", 52), ("fifty_one", 51)] {
+        s.published(name, format!("read_joints (halves (replicate {n} 0) []) 0 0 base"), read(&vec![0; n]));
     }
     // one rotation limit at the address 1
     let bytes = lay(&[zeros(16), u64(1), zeros(24), u16(1), zeros(2)]);
     assert_eq!(bytes.len(), 52);
     let term = "replicate 16 0 ++ 1 ∷ replicate 31 0 ++ 1 ∷ replicate 3 0";
-    s.published("limitBytesFirst", format!("readJoints (halves ({term}) []) 0 0 base"), read(&bytes));
+    s.published("limit_bytes_first", format!("read_joints (halves ({term}) []) 0 0 base"), read(&bytes));
     // and one translation limit at the end
     let bytes = lay(&[zeros(16), u64(1), u64(SYSTEM_BASE + 52), zeros(16), u16(1), u16(1)]);
     assert_eq!(bytes.len(), 52);
     let edits: Vec<(usize, u8)> = bytes.iter().copied().enumerate().filter(|&(_, byte)| byte != 0).collect();
-    let left = format!("readJoints (halves ({} (replicate 52 0)) []) 1 1 base", with("edited", &edits));
-    s.published("rotationsFirst", left, read(&bytes));
+    let left = format!("read_joints (halves ({} (replicate 52 0)) []) 1 1 base", with("edited", &edits));
+    s.published("rotations_first", left, read(&bytes));
     let Written::Refused(number) = joints_write(&vec![r; 65_536], &[]) else { panic!("65,536 limits are too many") };
-    s.published("sixBeforeFive", "jointsWritten 0 (replicate 65536 rotation1) []", format!("refused {number}"));
+    s.published("six_before_five", "joints_written 0 (replicate 65536 rotation1) []", format!("refused {number}"));
     let Written::Refused(number) = joints_write(&[], &vec![t; 65_536]) else { panic!("65,536 limits are too many") };
-    s.published("sixOfTranslations", "jointsWritten 0 [] (replicate 65536 translation1)", format!("refused {number}"));
+    s.published("six_of_translations", "joints_written 0 [] (replicate 65536 translation1)", format!("refused {number}"));
     // the spec's limits of no slots stand for these
     s.define("rotation0", format!("record {{ {}; other = [] }}", rotation(&r.id.to_string(), &r)));
     s.define("translation0", format!("record {{ {}; other = [] }}", translation(&t.id.to_string(), &t)));
@@ -65,13 +65,13 @@ pub fn sheet() -> Sheet {
     let mut rotations = vec![rotation_of(5); 65_535];
     rotations[0] = rotation_of(65_536);
     let number = refusal(&rotations, &vec![translation_of(0x1_0007); 65_535], 0).expect("a refusal");
-    let lists = "(rotationOf 65536 ∷ replicate 65534 rotation0) (replicate 65535 translation0)";
-    s.text("mostLimits", format!("jointsWritten 0 {lists}"), format!("refused {number}"));
+    let lists = "(rotation_of 65536 ∷ replicate 65534 rotation0) (replicate 65535 translation0)";
+    s.text("most_limits", format!("joints_written 0 {lists}"), format!("refused {number}"));
     let limits = "(rotation1 ∷ []) (translation1 ∷ [])";
-    for (name, size) in [("jointsFit", 320), ("jointsShort", 319)] {
+    for (name, size) in [("joints_fit", 320), ("joints_short", 319)] {
         let fits = joints_write(&[r], &[t]).section().len() <= size;
-        let right = if fits { format!("done (jointsLayout {limits})") } else { "refused 5".into() };
-        s.text(name, format!("jointsWritten {size} {limits}"), right);
+        let right = if fits { format!("done (joints_layout {limits})") } else { "refused 5".into() };
+        s.text(name, format!("joints_written {size} {limits}"), right);
     }
     ids(&mut s);
     one(&mut s, r, t);
@@ -93,60 +93,60 @@ fn refusal(rotations: &[Vec<u32>], translations: &[Vec<u32>], size: usize) -> Op
 /// Ids of 16 and of 32 bits, and where 35 stands among the refusals.
 fn ids(s: &mut Sheet) {
     let (greatest, wide, any) = (65_535, 65_536, u32::MAX);
-    let r = |id: u32| format!("(rotationOf {} ∷ [])", number(id));
-    let t = format!("(translationOf {} ∷ [])", number(any));
+    let r = |id: u32| format!("(rotation_of {} ∷ [])", number(id));
+    let t = format!("(translation_of {} ∷ [])", number(any));
     let written = |s: &mut Sheet, name: &str, size: usize, terms: [&str; 2], rotations: &[u32], translations: &[Vec<u32>]| {
         let rotations: Vec<Vec<u32>> = rotations.iter().map(|&id| rotation_of(id)).collect();
         let [left, right] = terms;
         let answer = match refusal(&rotations, translations, size) {
             Some(number) => format!("refused {number}"),
-            None => format!("done (jointsLayout {left} {right})"),
+            None => format!("done (joints_layout {left} {right})"),
         };
-        s.text(name, format!("jointsWritten {size} {left} {right}"), answer);
+        s.text(name, format!("joints_written {size} {left} {right}"), answer);
     };
-    written(s, "greatestId", 256, [&r(greatest), "[]"], &[greatest], &[]);
+    written(s, "greatest_id", 256, [&r(greatest), "[]"], &[greatest], &[]);
     let limit = rows::rotation_limit(&rotation_of(greatest)).expect("an id of 16 bits");
     let stored = u32_at(&joints_write(&[limit], &[]).section(), 72);
-    s.published("greatestIdLaid", format!("field 4 (jointsLayout {} []) 72", r(greatest)), number(stored));
-    written(s, "wideId", 256, [&r(wide), "[]"], &[wide], &[]);
-    written(s, "wideIdSecond", 448, [&format!("(rotation1 ∷ rotationOf {wide} ∷ [])"), "[]"], &[5, wide], &[]);
-    written(s, "translationId", 128, ["[]", &t], &[], &[translation_of(any)]);
+    s.published("greatest_id_laid", format!("field 4 (joints_layout {} []) 72", r(greatest)), number(stored));
+    written(s, "wide_id", 256, [&r(wide), "[]"], &[wide], &[]);
+    written(s, "wide_id_second", 448, [&format!("(rotation1 ∷ rotation_of {wide} ∷ [])"), "[]"], &[5, wide], &[]);
+    written(s, "translation_id", 128, ["[]", &t], &[], &[translation_of(any)]);
     let stored = u32_at(&joints_write(&[], &[rows::translation_limit(&translation_of(any))]).section(), 72);
-    s.published("translationIdLaid", format!("field 4 (jointsLayout [] {t}) 72"), number(stored));
-    let many = format!("(replicate 65536 (rotationOf {wide}))");
-    written(s, "sixBeforeWide", 0, [&many, "[]"], &vec![wide; 65_536], &[]);
+    s.published("translation_id_laid", format!("field 4 (joints_layout [] {t}) 72"), number(stored));
+    let many = format!("(replicate 65536 (rotation_of {wide}))");
+    written(s, "six_before_wide", 0, [&many, "[]"], &vec![wide; 65_536], &[]);
     let others = "(replicate 65536 translation0)";
-    written(s, "sixOfOthersBeforeWide", 0, [&r(wide), others], &[wide], &vec![translation_of(0x1_0007); 65_536]);
-    written(s, "wideBeforeFive", 0, [&r(wide), "[]"], &[wide], &[]);
+    written(s, "six_of_others_before_wide", 0, [&r(wide), others], &[wide], &vec![translation_of(0x1_0007); 65_536]);
+    written(s, "wide_before_five", 0, [&r(wide), "[]"], &[wide], &[]);
 }
 
 /// One record: the same bytes as in a section.
 fn one(s: &mut Sheet, r: RotationLimit, t: TranslationLimit) {
     assert_eq!(rotation_limit_write(&r), joints_write(&[r], &[]).section()[64..], "the record in a section");
     assert_eq!(translation_limit_write(&t), joints_write(&[], &[t]).section()[64..], "the record in a section");
-    let rotation_laid = "done (drop 64 (jointsLayout (rotation1 ∷ []) []))";
-    let translation_laid = "done (drop 64 (jointsLayout [] (translation1 ∷ [])))";
-    s.published("rotationOne", "rotationWritten 192 rotation1", rotation_laid);
+    let rotation_laid = "done (drop 64 (joints_layout (rotation1 ∷ []) []))";
+    let translation_laid = "done (drop 64 (joints_layout [] (translation1 ∷ [])))";
+    s.published("rotation_one", "rotation_written 192 rotation1", rotation_laid);
     let short = |row: &[u32], size: usize| match rows::rotation_limit(row) {
         None => "refused 35",
         Some(limit) if rotation_limit_write(&limit).len() > size => "refused 5",
         Some(_) => rotation_laid,
     };
-    s.text("rotationShort", "rotationWritten 191 rotation1", short(&rotation_of(5), 191));
-    s.text("rotationGreatest", "rotationWritten 191 (rotationOf 65535)", short(&rotation_of(65_535), 191));
-    s.text("rotationWide", "rotationWritten 191 (rotationOf 65536)", short(&rotation_of(65_536), 191));
-    s.published("translationOne", "translationWritten 64 translation1", translation_laid);
+    s.text("rotation_short", "rotation_written 191 rotation1", short(&rotation_of(5), 191));
+    s.text("rotation_greatest", "rotation_written 191 (rotation_of 65535)", short(&rotation_of(65_535), 191));
+    s.text("rotation_wide", "rotation_written 191 (rotation_of 65536)", short(&rotation_of(65_536), 191));
+    s.published("translation_one", "translation_written 64 translation1", translation_laid);
     let fits = translation_limit_write(&t).len() <= 63;
-    s.text("translationShort", "translationWritten 63 translation1", if fits { translation_laid } else { "refused 5" });
+    s.text("translation_short", "translation_written 63 translation1", if fits { translation_laid } else { "refused 5" });
 }
 
 /// The slots of the fresh limit, and the limit: its row.
 fn fresh(s: &mut Sheet) {
     let fresh = fresh_rotation_limit();
-    s.published("fresh", "freshSlots", row(&fresh.other));
+    s.published("fresh", "fresh_slots", row(&fresh.other));
     let others: Vec<u32> = rows::rotation_others().map(|slot| fresh.other[slot]).collect();
     let named = rotation(&fresh.id.to_string(), &fresh);
-    s.published("freshLimit", "freshRotationLimit", format!("record {{ {named}; other = {}; }}", row(&others)));
+    s.published("fresh_limit", "fresh_rotation_limit", format!("record {{ {named}; other = {}; }}", row(&others)));
 }
 
 /// The named fields of a limit, with this id.
@@ -165,23 +165,23 @@ fn bounds(least: [u32; 3], greatest: [u32; 3]) -> String {
 /// Two rotation limits and one translation limit read back; 1 where a table has fewer rows, by docs/FORMAT.md's text.
 fn back(s: &mut Sheet, r: RotationLimit, t: TranslationLimit) {
     let bytes = joints_write(&[r, r], &[t]).section();
-    s.define("joints21", "halves (jointsLayout (rotation1 ∷ rotation1 ∷ []) (translation1 ∷ [])) []".into());
+    s.define("joints21", "halves (joints_layout (rotation1 ∷ rotation1 ∷ []) (translation1 ∷ [])) []".into());
     let JointsAnswer::Read(j) = joints_read(&bytes, &[], SYSTEM_BASE) else { panic!("joints that must read") };
     let (rotations, translations) = (j.rotations.expect("a list"), j.translations.expect("a list"));
     let ([first, second], [only]) = (&rotations[..], &translations[..]) else { panic!("two limits and one") };
     assert_eq!([first, second].map(rows::rotation), [rows::rotation(&r); 2], "the limits that were written");
     assert_eq!(rows::translation(only), rows::translation(&t), "the limit that was written");
-    let counts = format!("kind = {}; rotationCount = {}; translationCount = {}", j.kind, j.rotation_count, j.translation_count);
+    let counts = format!("kind = {}; rotation_count = {}; translation_count = {}", j.kind, j.rotation_count, j.translation_count);
     let lists = "rotation = some (rotation1 ∷ rotation1 ∷ []); translation = some (translation1 ∷ []);";
     let read = format!("done (some (record {{ {counts}; {lists} }}))");
-    s.published("limitsBack", "readJoints joints21 2 1 base", &read);
-    for (name, rows) in [("noRotationRow", [1, 1]), ("noTranslationRow", [2, 0])] {
+    s.published("limits_back", "read_joints joints21 2 1 base", &read);
+    for (name, rows) in [("no_rotation_row", [1, 1]), ("no_translation_row", [2, 0])] {
         let holds = rotations.len() <= rows[0] && translations.len() <= rows[1];
         let right = if holds { &read } else { "refused 1" };
-        s.joined(name, format!("readJoints joints21 {} {} base", rows[0], rows[1]), right);
+        s.joined(name, format!("read_joints joints21 {} {} base", rows[0], rows[1]), right);
     }
     assert_eq!(joints_read(&bytes, &[], 0), JointsAnswer::None);
-    s.published("jointsAtZero", "readJoints joints21 2 1 0", "done none");
+    s.published("joints_at_zero", "read_joints joints21 2 1 0", "done none");
 }
 
 fn read(bytes: &[u8]) -> String {
@@ -190,7 +190,7 @@ fn read(bytes: &[u8]) -> String {
         JointsAnswer::Refused(number) => format!("refused {number}"),
         JointsAnswer::Read(j) => {
             assert!(j.rotations.is_none() && j.translations.is_none(), "a record with no lists");
-            let counts = format!("rotationCount = {}; translationCount = {}", j.rotation_count, j.translation_count);
+            let counts = format!("rotation_count = {}; translation_count = {}", j.rotation_count, j.translation_count);
             format!("done (some (record {{ kind = {}; {counts}; rotation = none; translation = none }}))", j.kind)
         }
     }

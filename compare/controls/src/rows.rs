@@ -11,24 +11,24 @@ pub fn sheet() -> Sheet {
     fields(&mut s);
     bones(&mut s);
     let entry = [1u32, 2, 3];
-    s.text("entryLaid", format!("entryWords ({})", applied("entryRow", &entry)), row(&entry));
+    s.text("entry_laid", format!("entry_words ({})", applied("entry_row", &entry)), row(&entry));
     let (r, t) = limits();
-    s.text("rotationLaid", "rotationWords rotation1", row(&rotation(&r)));
-    s.text("translationLaid", "translationWords translation1", row(&translation(&t)));
+    s.text("rotation_laid", "rotation_words rotation1", row(&rotation(&r)));
+    s.text("translation_laid", "translation_words translation1", row(&translation(&t)));
     let mut upper = rotation(&r);
     upper[48] |= 0xFFFF_0000;
     assert_eq!(rotation_limit(&upper), Some(r), "a row of this limit");
-    let edited = format!("edited ((48, {}) ∷ []) (rotationWords rotation1)", number(upper[48]));
-    s.text("rotationRowBack", format!("rotationRow ({edited})"), "rotation1");
+    let edited = format!("edited ((48, {}) ∷ []) (rotation_words rotation1)", number(upper[48]));
+    s.text("rotation_row_back", format!("rotation_row ({edited})"), "rotation1");
     // the published limit has no such id
     let any = u32::MAX;
     assert_eq!((rotation_of(any)[0], rotation_limit(&rotation_of(any))), (any, None));
-    let wide = format!("rotationOf {}", number(any));
-    s.text("wideRowBack", format!("rotationRow (rotationWords ({wide}))"), wide);
+    let wide = format!("rotation_of {}", number(any));
+    s.text("wide_row_back", format!("rotation_row (rotation_words ({wide}))"), wide);
     let back = translation_limit(&translation_of(any));
     assert_eq!((back.id, &translation(&back)[..]), (any, &translation_of(any)[..]));
-    let wide = format!("translationOf {}", number(any));
-    s.text("translationRowBack", format!("translationRow (translationWords ({wide}))"), wide);
+    let wide = format!("translation_of {}", number(any));
+    s.text("translation_row_back", format!("translation_row (translation_words ({wide}))"), wide);
     s
 }
 
@@ -38,11 +38,11 @@ fn fields(s: &mut Sheet) {
     let slice = numbers(&bytes);
     let reads = [0u32, 1, 2, 3];
     let read = reads.map(|at| u16_at(&bytes, at as usize));
-    s.published("readsInside", format!("map (fieldAt 2 ({slice})) ({})", numbers(&reads)), numbers(&read));
+    s.published("reads_inside", format!("map (field_at 2 ({slice})) ({})", numbers(&reads)), numbers(&read));
     let stores = [0u32, 1, 2];
     let stored = stores.map(|at| put_u16(&bytes, at as usize, value).unwrap_or(bytes.to_vec()));
-    let left = format!("map (λ a. putAt 2 ({slice}) a {value}) ({})", numbers(&stores));
-    s.published("storesInside", left, list(stored.iter().map(|bytes| format!("({})", numbers(bytes)))));
+    let left = format!("map (λ a. put_at 2 ({slice}) a {value}) ({})", numbers(&stores));
+    s.published("stores_inside", left, list(stored.iter().map(|bytes| format!("({})", numbers(bytes)))));
 }
 
 fn bones(s: &mut Sheet) {
@@ -62,16 +62,16 @@ fn bones(s: &mut Sheet) {
     let words = [applied("words4", &b.rotation), applied("words3", &b.translation), applied("words3", &b.scale)];
     let [rotation, translation, scale] = words;
     let first = format!("rotation = {rotation}; translation = {translation}; scale = {scale}");
-    let links = format!("nextSibling = {}; parent = {}", b.next_sibling, b.parent);
-    let name = format!("name = some (placeAt {} {})", number(place.address), number(place.size));
+    let links = format!("next_sibling = {}; parent = {}", b.next_sibling, b.parent);
+    let name = format!("name = some (place_at {} {})", number(place.address), number(place.size));
     let marks = format!("flags = {}; index = {}; tag = {}; kept = {}", b.flags, b.index, b.tag, applied("words4", &b.kept));
-    s.define("rowBone", format!("record {{ {first}; {links}; {name}; {marks}; }}"));
+    s.define("row_bone", format!("record {{ {first}; {links}; {name}; {marks}; }}"));
     let laid = placed_bones(std::slice::from_ref(&b), &[place]);
-    s.define("rowOfBone", row(&laid));
-    s.text("boneLaid", "boneWords rowBone", "rowOfBone");
+    s.define("row_of_bone", row(&laid));
+    s.text("bone_laid", "bone_words row_bone", "row_of_bone");
     let mut table = [&laid[..], &laid].concat();
     table[12] = 0xFFFF_000F;
     assert!(table.chunks(BONE).all(|row| bone(row) == b && Place::of(row) == place), "two rows of this bone");
-    let rows = format!("edited ((12, {}) ∷ []) rowOfBone ++ rowOfBone", number(table[12]));
-    s.text("boneRowsBack", format!("bonesOf 2 ({rows})"), list(table.chunks(BONE).map(|_| "rowBone")));
+    let rows = format!("edited ((12, {}) ∷ []) row_of_bone ++ row_of_bone", number(table[12]));
+    s.text("bone_rows_back", format!("bones_of 2 ({rows})"), list(table.chunks(BONE).map(|_| "row_bone")));
 }

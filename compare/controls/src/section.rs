@@ -15,12 +15,12 @@ fn edited(bones: &[Bone], edits: &Edits) -> Section {
     Section::written(system)
 }
 
-/// `controlWith`
+/// `control_with`
 pub fn control(edits: &Edits) -> Section {
     edited(&trial::control_rig(), edits)
 }
 
-/// `emptyWith`
+/// `empty_with`
 pub fn empty(edits: &Edits) -> Section {
     edited(&[], edits)
 }
@@ -37,7 +37,7 @@ pub fn with(function: &str, edits: &Edits) -> String {
     format!("{function} {}", arg(&list(edits.iter().map(|(at, byte)| format!("({at}, {byte})")))))
 }
 
-/// `readWith`: the refusal, or what is read.
+/// `read_with`: the refusal, or what is read.
 pub fn read(edits: &Edits) -> ReadAnswer {
     lent::read(&control(edits), PROGRAM)
 }

@@ -38,7 +38,7 @@ pub fn numbers<T: Copy + Into<u64>>(items: &[T]) -> String {
 
 /// Indices and parents, as the specs name -1.
 pub fn signed(items: &[i16]) -> String {
-    list(items.iter().map(|&n| if n == -1 { "minusOne".into() } else { number(n as u16) }))
+    list(items.iter().map(|&n| if n == -1 { "minus_one".into() } else { number(n as u16) }))
 }
 
 /// Numbers written out, however alike they are.

@@ -13,7 +13,7 @@ pub fn sheet() -> Sheet {
     let mut s = Sheet::new("format/specs/TrialCases.antt");
     let buckets = |n: u32| num_hash_buckets(n as usize) as u32;
     let counts = [10, 11, 65_166, 65_167];
-    s.published("buckets", format!("map numHashBuckets ({})", numbers(&counts)), numbers(&counts.map(buckets)));
+    s.published("buckets", format!("map num_hash_buckets ({})", numbers(&counts)), numbers(&counts.map(buckets)));
     // the counts after which there is another number of buckets, or no further count
     let mut least = 0;
     for n in (0..=MOST).filter(|&n| n == MOST || buckets(n) != buckets(n + 1)) {
@@ -22,19 +22,19 @@ pub fn sheet() -> Sheet {
     }
     let tags = [0u16, 11, 22];
     let bones: Vec<Bone> = tags.iter().enumerate().map(|(i, &tag)| Bone { tag, ..plain_bone(i, NONE) }).collect();
-    let chain = list(build_bone_tags(&bones)[0].iter().map(|(tag, position)| format!("entryOf {tag} {position}")));
-    s.published("tags", format!("getD (chains ({})) 0 []", numbers(&tags)), chain);
+    let chain = list(build_bone_tags(&bones)[0].iter().map(|(tag, position)| format!("entry_of {tag} {position}")));
+    s.published("tags", format!("get_or (chains ({})) 0 []", numbers(&tags)), chain);
     for (name, parents) in [("children3", &[NONE, 0, 0][..]), ("children7", &[NONE, 0, 0, 0, 0, 0, 1])] {
-        s.published(name, format!("rigChildren ({})", signed(parents)), children(&rig_of_parents(parents)));
+        s.published(name, format!("rig_children ({})", signed(parents)), children(&rig_of_parents(parents)));
     }
     let own = Bone { index: NONE, ..plain_bone(0, NONE) };
-    s.published("childrenOfItself", "children (minusOne ∷ []) (minusOne ∷ [])", children(&[own]));
+    s.published("children_of_itself", "children (minus_one ∷ []) (minus_one ∷ [])", children(&[own]));
     let half = Bone { rotation: [0.5f32, 0.5, 0.0, 0.0].map(f32::to_bits), ..plain_bone(0, NONE) };
-    s.published("singular", "inverseOf (half ∷ []) half", numbers(&inverse(&[half], 0)));
+    s.published("singular", "inverse_of (half ∷ []) half", numbers(&inverse(&[half], 0)));
     let (none, root) = (write(&[], [0; 4]).section(), write(&[plain_bone(0, NONE)], [0; 4]).section());
-    s.published("noBones", "length (layout [] noFree)", number(none.len() as u64));
-    s.published("oneRoot", "length (layout (plain minusOne 0 0 ∷ []) noFree)", number(root.len() as u64));
-    s.published("bonesPointer", "field 8 (layout (plain minusOne 0 0 ∷ []) noFree) 32", number(u64_at(&root, 32)));
+    s.published("no_bones", "length (layout [] no_free)", number(none.len() as u64));
+    s.published("one_root", "length (layout (plain minus_one 0 0 ∷ []) no_free)", number(root.len() as u64));
+    s.published("bones_pointer", "field 8 (layout (plain minus_one 0 0 ∷ []) no_free) 32", number(u64_at(&root, 32)));
     s
 }
 
