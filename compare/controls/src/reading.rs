@@ -45,7 +45,11 @@ pub fn sheet() -> Sheet {
     checks(&mut s, "name_at_block", &[(328, 0), (329, 1)]);
     checks(&mut s, "link_at_buckets", &[(248, 112), (251, 80)]);
     let without = [(33, 0), (35, 0)];
-    s.published("matrices_without_bones", format!("inverse_count ({})", with("read_with", &without)), inverse_count(read(&without)));
+    s.published(
+        "matrices_without_bones",
+        format!("inverse_count ({})", with("read_with", &without)),
+        inverse_count(read(&without)),
+    );
     let nowhere = lent::read(&Section { root: 0, ..control(&[]) }, PROGRAM);
     assert!(matches!(nowhere, Ok(None)), "root 0");
     s.published("root_zero", "read (control_with []) program_room 0", "done none");
@@ -71,7 +75,8 @@ fn names(s: &mut Sheet) {
 
 /// Bytes set to 1 that one field alone has, and the fields read.
 fn fields(s: &mut Sheet) {
-    let ones: [(&'static str, &[u32]); 2] = [("pointers_of64_bits", &[20, 36, 44, 52, 60, 68, 220]), ("counts_of16_bits", &[97, 95])];
+    let ones: [(&'static str, &[u32]); 2] =
+        [("pointers_of64_bits", &[20, 36, 44, 52, 60, 68, 220]), ("counts_of16_bits", &[97, 95])];
     for (name, offsets) in ones {
         let left = format!("map (λ a. read_with ((a, 1) ∷ [])) ({})", numbers(offsets));
         s.published(name, left, list(offsets.iter().map(|&at| refusal(&read(&[(at as usize, 1)])))));
