@@ -10,7 +10,8 @@ mod rigs; // deriving
 mod limits; // joints
 mod names; // hashes
 
-use libc::STDIN_FILENO;
+use std::io;
+use std::io::Read;
 
 // the bytes in front of a case: its number, and how many bytes it has
 const HEAD: usize = 8;
@@ -23,39 +24,56 @@ const RUNS: u16 = 0;
 
 const CALL: u16 = 1;
 
-fn main() {
+fn main(rt: HostRuntime) -> io::Result<()> {
     let mut bytes = [0u8; 8192];
     let mut counts = [0u32; 160];
-    replay_all(&mut bytes, &mut counts);
-    tally::print(&counts);
+    replay_all(&rt, &mut rt.stdin(), &mut bytes, &mut counts)?;
+    tally::print(&rt, &counts)
 }
 
 // Replays cases, each through the buffer, until the input ends.
-fn replay_all(bytes: &mut [u8], counts: &mut [u32]) {
-    let mut cases = 0;
-    while cases < MOST && replay_next(bytes, counts) {
-        cases += 1;
+fn replay_all(
+    rt: &impl Print,
+    reader: &mut impl Read,
+    bytes: &mut [u8],
+    counts: &mut [u32],
+) -> io::Result<()> {
+    for _ in 0..MOST {
+        if !replay_next(rt, reader, bytes, counts)? {
+            break;
+        }
     }
+    Ok(())
 }
 
 // Replays the next case; false where there is none.
-fn replay_next(bytes: &mut [u8], counts: &mut [u32]) -> bool {
+fn replay_next(
+    rt: &impl Print,
+    reader: &mut impl Read,
+    bytes: &mut [u8],
+    counts: &mut [u32],
+) -> io::Result<bool> {
     let head = replay_sample::within8(HEAD, bytes);
-    if io::read_full(STDIN_FILENO, &mut bytes[..head]) < HEAD {
-        return false;
+    if input::read_full(reader, &mut bytes[..head])? < HEAD {
+        return Ok(false);
     }
     let number = fields::u32_at(bytes, 0);
     let size = fields::u32_at(bytes, 4) as usize;
     let room = replay_sample::within8(size, bytes);
-    if io::read_full(STDIN_FILENO, &mut bytes[..room]) < size {
-        return false;
+    if input::read_full(reader, &mut bytes[..room])? < size {
+        return Ok(false);
     }
-    replay_case(number, bytes, counts);
-    true
+    replay_case(rt, number, bytes, counts)?;
+    Ok(true)
 }
 
 // Makes all runs of a case: an operation, the tables of the run, and the answer that it must give.
-fn replay_case(number: u32, case: &[u8], counts: &mut [u32]) {
+fn replay_case(
+    rt: &impl Print,
+    number: u32,
+    case: &[u8],
+    counts: &mut [u32],
+) -> io::Result<()> {
     let runs = replay_sample::part(case, RUNS);
     let call = replay_sample::part(case, CALL);
     let a = fields::u64_at(call, 0);
@@ -67,9 +85,10 @@ fn replay_case(number: u32, case: &[u8], counts: &mut [u32]) {
         let run = replay_sample::number32(runs, i + 1);
         let answer = replay_sample::number32(runs, i + 2);
         let agrees = run_agrees(operation, case, a, b, run, answer);
-        tally::note(counts, operation, number, run, answer, agrees);
+        tally::note(rt, counts, operation, number, run, answer, agrees)?;
         i += 3;
     }
+    Ok(())
 }
 
 // Makes a run, and gives whether its answer and all that was lent are as expected.

@@ -10,7 +10,7 @@ ghost use Rattle.format.specs.Program.{printed};
 use crate::line::put_report;
 use check_steps::Checked;
 use format::Refusal;
-use libc::{STDIN_FILENO, STDOUT_FILENO};
+use std::io;
 
 // The longest section.
 const LONGEST: usize = 65536;
@@ -64,10 +64,10 @@ fn print_check(sys: &[u8], line: &mut [u8]) -> usize
     put_report(v, line)
 }
 
-fn main() {
+fn main(rt: HostRuntime) -> io::Result<()> {
     let mut section = [0u8; 65537];
-    let n = io::read_full(STDIN_FILENO, &mut section);
+    let n = input::read_full(&mut rt.stdin(), &mut section)?;
     let mut line = [0u8; 16];
     let at = print_check(&section[..n], &mut line);
-    io::write_all(STDOUT_FILENO, &line[at..]);
+    rt.write_all(&line[at..])
 }
