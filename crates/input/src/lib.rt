@@ -26,3 +26,56 @@ pub fn read_full<R: Read>(input: &mut R, bytes: &mut [u8]) -> io::Result<usize>
     }
     Ok(done)
 }
+
+#[cfg(test)]
+mod tests {
+    use super::*;
+
+    // A reader that gives two bytes a read at most, and fails behind the last where it is to.
+    #[derive(Drop)]
+    struct Slow<'a> {
+        left: &'a [u8],
+        fails: bool,
+    }
+
+    impl Read for Slow<'_> {
+        fn read(&mut self, buf: &mut [u8]) -> io::Result<usize> {
+            if self.left.is_empty() && self.fails {
+                return Err(io::Error::from(io::ErrorKind::TimedOut));
+            }
+            let n = self.left.len().min(buf.len()).min(2);
+            buf[..n].copy_from_slice(&self.left[..n]);
+            self.left = &self.left[n..];
+            Ok(n)
+        }
+    }
+
+    #[test]
+    fn goes_on_after_short_reads(rt: HostRuntime) -> io::Result<()> {
+        let mut bytes = [0u8; 5];
+        let mut short = Slow {
+            left: b"abc",
+            fails: false,
+        };
+        assert_eq!(rt; read_full(&mut short, &mut bytes)?, 3);
+        assert_eq!(rt; bytes, *b"abc\0\0");
+        let mut long = Slow {
+            left: b"defghij",
+            fails: true,
+        };
+        assert_eq!(rt; read_full(&mut long, &mut bytes)?, 5);
+        assert_eq!(rt; bytes, *b"defgh");
+        assert_eq!(rt; long.left, b"ij".as_slice());
+        Ok(())
+    }
+
+    #[test]
+    fn fails_where_a_read_fails(rt: HostRuntime) {
+        let mut bytes = [0u8; 5];
+        let mut broken = Slow {
+            left: b"abc",
+            fails: true,
+        };
+        assert!(rt; read_full(&mut broken, &mut bytes).is_err());
+    }
+}

@@ -1,5 +1,5 @@
 // Joints replayed (docs/FORMAT.md, "Joints and names").
-use crate::tables;
+use crate::buffers;
 use fields::runs;
 use joints::limits::RecordWritten;
 use joints::read::{JointsRead, LimitList};
@@ -47,7 +47,7 @@ fn fields_of(r: JointsRead) -> [usize; 8] {
             let r = j.rotation;
             let t = j.translation;
             [
-                tables::DONE as usize,
+                buffers::DONE as usize,
                 j.kind as usize,
                 j.rotation_count as usize,
                 j.translation_count as usize,
@@ -62,8 +62,8 @@ fn fields_of(r: JointsRead) -> [usize; 8] {
 }
 
 pub(crate) fn read_agrees(case: &[u8], root: u64) -> bool {
-    let mut rotation = tables::dirty32();
-    let mut translation = tables::dirty32();
+    let mut rotation = buffers::dirty32();
+    let mut translation = buffers::dirty32();
     let r = joints::read::read(
         replay_sample::part(case, SYSTEM),
         replay_sample::part(case, GRAPHICS),
@@ -72,7 +72,7 @@ pub(crate) fn read_agrees(case: &[u8], root: u64) -> bool {
         &mut translation,
     );
     let fields = fields_of(r);
-    tables::all(
+    buffers::all(
         replay_sample::same_sizes(&fields, replay_sample::part(case, FIELDS)),
         replay_sample::same32(&rotation, replay_sample::part(case, ROTATION)),
         replay_sample::same32(&translation, replay_sample::part(case, TRANSLATION)),
@@ -91,7 +91,7 @@ const SECTION: u16 = 4;
 
 fn written_as(w: JointsWritten, answer: u32, size: usize) -> bool {
     match w {
-        JointsWritten::Done(n) => answer == tables::DONE && n == size,
+        JointsWritten::Done(n) => answer == buffers::DONE && n == size,
         JointsWritten::Refused(e) => answer == format::code(e),
     }
 }
@@ -99,12 +99,12 @@ fn written_as(w: JointsWritten, answer: u32, size: usize) -> bool {
 pub(crate) fn write_agrees(case: &[u8], r: usize, t: usize, answer: u32) -> bool {
     let rotation = replay_sample::loaded32(replay_sample::part(case, ROTATION_LIMITS));
     let translation = replay_sample::loaded32(replay_sample::part(case, TRANSLATION_LIMITS));
-    let mut out = tables::dirty8();
+    let mut out = buffers::dirty8();
     let w = joints::write::write(&rotation, r, &translation, t, &mut out);
     let want = replay_sample::part(case, SECTION);
-    tables::all(
+    buffers::all(
         written_as(w, answer, want.len()),
-        replay_sample::same8(&out, want, tables::DIRT8),
+        replay_sample::same8(&out, want, buffers::DIRT8),
         true,
         true,
     )
@@ -140,7 +140,7 @@ const BYTES: u16 = 3;
 
 fn record_written_as(w: RecordWritten, answer: u32) -> bool {
     match w {
-        RecordWritten::Done => answer == tables::DONE,
+        RecordWritten::Done => answer == buffers::DONE,
         RecordWritten::Refused(e) => answer == format::code(e),
     }
 }
@@ -161,11 +161,11 @@ pub(crate) fn rotation_write_agrees(case: &[u8], n: usize, answer: u32) -> bool 
     let words = replay_sample::loaded32(replay_sample::part(case, WRITTEN_ROW));
     let mut row = [0u32; 49];
     runs::copy_words(&words, 0, 49, &mut row, 0);
-    let mut out = tables::dirty8();
+    let mut out = buffers::dirty8();
     let w = write_rotation_into(&row, n, &mut out);
-    tables::all(
+    buffers::all(
         record_written_as(w, answer),
-        replay_sample::same8(&out, replay_sample::part(case, BYTES), tables::DIRT8),
+        replay_sample::same8(&out, replay_sample::part(case, BYTES), buffers::DIRT8),
         true,
         true,
     )
@@ -175,11 +175,11 @@ pub(crate) fn translation_write_agrees(case: &[u8], n: usize, answer: u32) -> bo
     let words = replay_sample::loaded32(replay_sample::part(case, WRITTEN_ROW));
     let mut row = [0u32; 16];
     runs::copy_words(&words, 0, 16, &mut row, 0);
-    let mut out = tables::dirty8();
+    let mut out = buffers::dirty8();
     let w = write_translation_into(&row, n, &mut out);
-    tables::all(
+    buffers::all(
         record_written_as(w, answer),
-        replay_sample::same8(&out, replay_sample::part(case, BYTES), tables::DIRT8),
+        replay_sample::same8(&out, replay_sample::part(case, BYTES), buffers::DIRT8),
         true,
         true,
     )

@@ -3,7 +3,7 @@
 // met; and how many runs differ. The first that differs is named where it is met.
 #![tactic(auto)]
 
-mod tables; // what is lent
+mod buffers; // what is lent
 mod tally; // how the runs came out
 mod sections; // reading a skeleton, and looking up a tag
 mod rigs; // deriving
@@ -68,12 +68,7 @@ fn replay_next(
 }
 
 // Makes all runs of a case: an operation, the tables of the run, and the answer that it must give.
-fn replay_case(
-    rt: &impl Print,
-    number: u32,
-    case: &[u8],
-    counts: &mut [u32],
-) -> io::Result<()> {
+fn replay_case(rt: &impl Print, number: u32, case: &[u8], counts: &mut [u32]) -> io::Result<()> {
     let runs = replay_sample::part(case, RUNS);
     let call = replay_sample::part(case, CALL);
     let a = fields::u64_at(call, 0);

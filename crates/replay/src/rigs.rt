@@ -1,5 +1,5 @@
 // Deriving replayed (docs/FORMAT.md, "Deriving").
-use crate::tables;
+use crate::buffers;
 use derive_chains::tags::Tagged;
 use derive_children::indices::Indexed;
 use derive_matrices::matrices::Transformed;
@@ -26,18 +26,18 @@ const PENDING: u16 = 9;
 
 fn tagged_as(r: Tagged, answer: u32, count: usize) -> bool {
     match r {
-        Tagged::Done(n) => answer == tables::DONE && n == count,
+        Tagged::Done(n) => answer == buffers::DONE && n == count,
         Tagged::Refused(e) => answer == format::code(e),
     }
 }
 
 pub(crate) fn tags_agree(case: &[u8], n: usize, answer: u32) -> bool {
     let bones = replay_sample::loaded32(replay_sample::part(case, BONES));
-    let mut buckets = tables::dirty32();
-    let mut entries = tables::dirty32();
+    let mut buckets = buffers::dirty32();
+    let mut entries = buffers::dirty32();
     let r = derive_chains::tags::build_bone_tags(&bones, n, &mut buckets, &mut entries);
     let want = replay_sample::part(case, BUCKETS);
-    tables::all(
+    buffers::all(
         tagged_as(r, answer, want.len() / 4),
         replay_sample::same32(&buckets, want),
         replay_sample::same32(&entries, replay_sample::part(case, ENTRIES)),
@@ -49,16 +49,16 @@ pub(crate) fn tags_agree(case: &[u8], n: usize, answer: u32) -> bool {
 
 fn indexed_as(r: Indexed, answer: u32, count: usize) -> bool {
     match r {
-        Indexed::Done(n) => answer == tables::DONE && n == count,
+        Indexed::Done(n) => answer == buffers::DONE && n == count,
         Indexed::Refused(e) => answer == format::code(e),
     }
 }
 
 pub(crate) fn indices_agree(case: &[u8], n: usize, answer: u32) -> bool {
     let bones = replay_sample::loaded32(replay_sample::part(case, BONES));
-    let mut parents = tables::dirty16();
-    let mut children = tables::dirty16();
-    let mut pending = tables::dirty32();
+    let mut parents = buffers::dirty16();
+    let mut children = buffers::dirty16();
+    let mut pending = buffers::dirty32();
     let r = derive_children::indices::build_indices(
         &bones,
         n,
@@ -67,7 +67,7 @@ pub(crate) fn indices_agree(case: &[u8], n: usize, answer: u32) -> bool {
         &mut pending,
     );
     let want = replay_sample::part(case, CHILDREN);
-    tables::all(
+    buffers::all(
         indexed_as(r, answer, want.len() / 2),
         replay_sample::same16(&parents, replay_sample::part(case, PARENTS)),
         replay_sample::same16(&children, want),
@@ -79,17 +79,17 @@ pub(crate) fn indices_agree(case: &[u8], n: usize, answer: u32) -> bool {
 
 fn transformed_as(r: Transformed, answer: u32) -> bool {
     match r {
-        Transformed::Done => answer == tables::DONE,
+        Transformed::Done => answer == buffers::DONE,
         Transformed::Refused(e) => answer == format::code(e),
     }
 }
 
 pub(crate) fn matrices_agree(case: &[u8], n: usize, answer: u32) -> bool {
     let bones = replay_sample::loaded32(replay_sample::part(case, BONES));
-    let mut inverse = tables::dirty32();
-    let mut local = tables::dirty32();
+    let mut inverse = buffers::dirty32();
+    let mut local = buffers::dirty32();
     let r = derive_matrices::matrices::build_transformations(&bones, n, &mut inverse, &mut local);
-    tables::all(
+    buffers::all(
         transformed_as(r, answer),
         replay_sample::same32(&inverse, replay_sample::part(case, INVERSE)),
         replay_sample::same32(&local, replay_sample::part(case, LOCAL)),

@@ -1,5 +1,5 @@
 // Reading a skeleton and looking up a tag replayed (docs/FORMAT.md, "Reading and writing a skeleton", "Lookup and check").
-use crate::tables;
+use crate::buffers;
 use lookup::Looked;
 use read::SkeletonRead;
 
@@ -34,13 +34,13 @@ const POOL: u16 = 14;
 fn answer_agrees(r: SkeletonRead, want: &[u8], answer: u32) -> bool {
     let fields = rig_answers::read_fields(r);
     let same = replay_sample::same_sizes(&fields, replay_sample::part(want, FIELDS));
-    tables::all(rig_answers::read_status(r) == answer, same, true, true)
+    buffers::all(rig_answers::read_status(r) == answer, same, true, true)
 }
 
 // ---- the tables: they hold the rows of their parts; `want` is the case, or no bytes where a table is short
 
 fn rows_agree(want: &[u8], bones: &[u32], buckets: &[u32], entries: &[u32], pool: &[u64]) -> bool {
-    tables::all(
+    buffers::all(
         replay_sample::same32(bones, replay_sample::part(want, BONES)),
         replay_sample::same32(buckets, replay_sample::part(want, BUCKETS)),
         replay_sample::same32(entries, replay_sample::part(want, ENTRIES)),
@@ -55,7 +55,7 @@ fn lists_agree(
     parents: &[u16],
     children: &[u16],
 ) -> bool {
-    tables::all(
+    buffers::all(
         replay_sample::same32(inverse, replay_sample::part(want, INVERSE)),
         replay_sample::same32(local, replay_sample::part(want, LOCAL)),
         replay_sample::same16(parents, replay_sample::part(want, PARENTS)),
@@ -77,10 +77,10 @@ fn lists_into(
     entries: &mut [u32],
     pool: &mut [u64],
 ) -> bool {
-    let mut inverse_table = tables::dirty32();
-    let mut local_table = tables::dirty32();
-    let mut parents_table = tables::dirty16();
-    let mut children_table = tables::dirty16();
+    let mut inverse_table = buffers::dirty32();
+    let mut local_table = buffers::dirty32();
+    let mut parents_table = buffers::dirty16();
+    let mut children_table = buffers::dirty16();
     let i = replay_sample::lent32(case, run, 3, &inverse_table);
     let l = replay_sample::lent32(case, run, 4, &local_table);
     let p = replay_sample::lent16(case, run, 5, &parents_table);
@@ -103,15 +103,15 @@ fn lists_into(
         pool,
     );
     let lists = lists_agree(want, inverse, local, parents, children);
-    tables::all(answer_agrees(r, want, answer), lists, true, true)
+    buffers::all(answer_agrees(r, want, answer), lists, true, true)
 }
 
 // Lends the bones, the chains and the pool likewise, and compares them behind the rest.
 fn rows_into(case: &[u8], root: u64, run: u32, want: &[u8], answer: u32) -> bool {
-    let mut bones_table = tables::dirty32();
-    let mut buckets_table = tables::dirty32();
-    let mut entries_table = tables::dirty32();
-    let mut pool_table = tables::dirty64();
+    let mut bones_table = buffers::dirty32();
+    let mut buckets_table = buffers::dirty32();
+    let mut entries_table = buffers::dirty32();
+    let mut pool_table = buffers::dirty64();
     let n = replay_sample::lent32(case, run, 0, &bones_table);
     let b = replay_sample::lent32(case, run, 1, &buckets_table);
     let e = replay_sample::lent32(case, run, 2, &entries_table);
@@ -121,7 +121,7 @@ fn rows_into(case: &[u8], root: u64, run: u32, want: &[u8], answer: u32) -> bool
     let entries = &mut entries_table[..e];
     let pool = &mut pool_table[..p];
     let lists = lists_into(case, root, run, want, answer, bones, buckets, entries, pool);
-    tables::all(
+    buffers::all(
         lists,
         rows_agree(want, bones, buckets, entries, pool),
         true,
@@ -144,7 +144,7 @@ const POSITION: usize = 4;
 
 fn looked_as(r: Looked, answer: u32, position: u32) -> bool {
     match r {
-        Looked::Found(p) => answer == tables::DONE && p == position,
+        Looked::Found(p) => answer == buffers::DONE && p == position,
         Looked::Nothing => answer == rig_answers::NOTHING,
         Looked::Refused(e) => answer == format::code(e),
     }
