@@ -1,4 +1,5 @@
 -- `blocks::kinds::Kind::from_code` meets its contract: each code computes, and the rest is the last kind. Assumes nothing.
+use native.Mathlib.Omega.{arith}
 use mathlib.Core.Path.{sym, ap}
 use Rattle.blocks.specs.Kinds.{kind_from}
 use Rattle.blocks.proofs.Codes.{kind_from-rest}
@@ -45,6 +46,6 @@ returns-in_default c =
     record {
       answer =
           sym
-          (kind_from-rest c.args.code c.in_default.in_default-own.rest.0.0.0.0.0.0.0.0.1 c.in_default.in_default-own.rest.0.0.0.0.0.0.0.1 c.in_default.in_default-own.rest.0.0.0.0.0.0.1
-          c.in_default.in_default-own.rest.0.0.0.0.0.1 c.in_default.in_default-own.rest.0.0.0.0.1 c.in_default.in_default-own.rest.0.0.0.1 c.in_default.in_default-own.rest.0.0.1 c.in_default.in_default-own.rest.0.1 c.in_default.in_default-own.rest.1);
+          (kind_from-rest c.args.code (omega arith) (omega arith) (omega arith) (omega arith) (omega arith) (omega arith) (omega arith)
+          (omega arith) (omega arith));
     }
