@@ -10,10 +10,12 @@ Also the same names in contracts, comments, edits and documents. Prints names th
 import collections
 import pathlib
 import re
+import subprocess
 import sys
 
 ROOT = pathlib.Path(__file__).resolve().parent.parent
-LIB = pathlib.Path('/opt/rattle/rattle')
+# the kit's library, beside the page that `rt doc` names
+LIB = pathlib.Path(subprocess.check_output(['rt', 'doc'], text=True).strip()).parent / 'rattle'
 TOKEN = re.compile(r"(?<![\w'])[^\W\d][\w'→≤≡↔<-]*")
 DECLARED = re.compile(r"(?:^\s*|\blet |[{(] ?|λ )(?:pub |abbrev |unfoldable |axiom )*([^\W\d][\w'→≤≡↔<-]*(?: [^\W\d][\w'→≤≡↔<-]*)*) ?:(?=\s|$)", re.M)
 CAMEL = re.compile(r"^[a-z][a-z0-9]*(?:[A-Z][\w']*)$")

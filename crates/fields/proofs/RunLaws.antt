@@ -19,7 +19,7 @@ use Rattle.fields.specs.Runs.{loaded, stored, copied}
 use Rattle.fields.specs.declared.Placed.TheVariants.{Stored, Outside}
 use Rattle.fields.proofs.Stores.{sets-append, part-sets-same}
 use Rattle.fields.proofs.Laws.{field_at-stands, le-or-lt}
-use Rattle.fields.proofs.WordLists.{get_d_words, words_at_lem}
+use Rattle.fields.proofs.WordLists.{get_or-words, words_at_lem}
 
 -- ---- words into a table
 
@@ -59,7 +59,7 @@ module _ {w : List ℕ} {n : ℕ} {t₀ : List ℕ} {to : ℕ} {t : List ℕ} {i
 -- the code's load of the i-th of n words
 pub word-loaded :
     (s : List ℕ) (n i : ℕ) {v : ℕ} → 4 * n ≤ length s → i < n → v ≡ field_at 4 s (4 * i) → v ≡ get_or (words 4 n s) i 0
-word-loaded s n i h l e = e ∙ field_at-stands 4 s (4 * i) (omega arith) ∙ sym (get_d_words 4 n s i l)
+word-loaded s n i h l e = e ∙ field_at-stands 4 s (4 * i) (omega arith) ∙ sym (get_or-words 4 n s i l)
 
 -- the same of 16 bits, from a place on
 pub half-loaded :
@@ -67,7 +67,7 @@ pub half-loaded :
     v ≡ get_or (words 2 n (drop from s)) i 0
 half-loaded s from n i h l e =
     e ∙ field_at-stands 2 s (from + 2 * i) (omega arith)
-    ∙ sym (get_d_words 2 n (drop from s) i l ∙ simp drop-drop)
+    ∙ sym (get_or-words 2 n (drop from s) i l ∙ simp drop-drop)
 
 module _
     (s : List ℕ) (from : ℕ) {n : ℕ} {t₀ : List ℕ} {to : ℕ} {t : List ℕ} {i : ℕ} (p : Put (words 4 n (drop from s)) n t₀ to t i)

@@ -34,13 +34,13 @@ words-add k (suc m) n s =
     let f : k + k * m ≡ k * suc m = simp mul-suc (omega arith) in
     simp (e, words-add k m n (drop k s), drop-drop, f)
 
-pub get_d_words : (k m : ℕ) (s : List ℕ) (j : ℕ) → j < m → get_or (words k m s) j 0 ≡ field k s (k * j)
+pub get_or-words : (k m : ℕ) (s : List ℕ) (j : ℕ) → j < m → get_or (words k m s) j 0 ≡ field k s (k * j)
 unfolding words
-get_d_words k zero s j h = absurd (omega arith)
-get_d_words k (suc m) s zero h = simp mul-zero
-get_d_words k (suc m) s (suc j) h =
+get_or-words k zero s j h = absurd (omega arith)
+get_or-words k (suc m) s zero h = simp mul-zero
+get_or-words k (suc m) s (suc j) h =
     let f : k + k * j ≡ k * suc j = simp mul-suc (omega arith) in
-    get_d_words k m (drop k s) j (omega arith) ∙ simp (drop-drop, f)
+    get_or-words k m (drop k s) j (omega arith) ∙ simp (drop-drop, f)
 
 -- n words behind i, of all
 words_middle : (k i n r : ℕ) (s : List ℕ) → take n (drop i (words k (i + (n + r)) s)) ≡ words k n (drop (k * i) s)

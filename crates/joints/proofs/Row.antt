@@ -15,7 +15,7 @@ use Rattle.format.specs.Joints.{translation_slots, translation_limit, translatio
 use Rattle.fields.proofs.Laws.{field_at-stands}
 use Rattle.fields.proofs.Stores.{sets-append}
 use Rattle.joints.specs.Limit.{words_at, first_slots, second_slots, third_slots}
-use Rattle.fields.proofs.WordLists.{drop-take, length-words, get_d_words, words-part, length-word_bytes, word_bytes-append}
+use Rattle.fields.proofs.WordLists.{drop-take, length-words, get_or-words, words-part, length-word_bytes, word_bytes-append}
 
 -- ---- stores one behind the other
 
@@ -136,7 +136,7 @@ module _ (i j k : ℕ) (s : List ℕ) where
   -- the word at slot 2
   id-loaded : {v : ℕ} → 4 * (9 + i + j + k) ≤ length s → v ≡ field_at 4 s 8 → v ≡ get_or own 2 0
   id-loaded h e =
-      e ∙ field_at-stands 4 s 8 (omega arith) ∙ sym (get_d_words 4 (9 + i + j + k) s 2 (omega arith))
+      e ∙ field_at-stands 4 s 8 (omega arith) ∙ sym (get_or-words 4 (9 + i + j + k) s 2 (omega arith))
 
 no_words : (t : List ℕ) (to : ℕ) (b : List ℕ) → t ≡ sets t to (words 4 0 b)
 unfolding words

@@ -12,12 +12,12 @@ use Rattle.math.specs.Matrix.{set_diagonal, set_column4, diagonal_word, column4_
 
 module _ {A : Type 0} (d : A) where
   -- one word is set: it is the new one, and every other is as it was
-  get_d_set : (l : List A) (j i : ℕ) (a : A) → j < length l → get_or (set l j a) i d ≡ cond (eqb i j) a (get_or l i d)
-  get_d_set [] j i a h = absurd (not-suc-le-zero h)
-  get_d_set (x ∷ xs) zero zero a h = refl
-  get_d_set (x ∷ xs) zero (suc i) a h = rw (eqb-suc-zero i) refl
-  get_d_set (x ∷ xs) (suc j) zero a h = rw (eqb-zero-suc j) refl
-  get_d_set (x ∷ xs) (suc j) (suc i) a h = rw (eqb-suc-suc i j) (get_d_set xs j i a (le_of_suc-le-suc h))
+  get_or-set : (l : List A) (j i : ℕ) (a : A) → j < length l → get_or (set l j a) i d ≡ cond (eqb i j) a (get_or l i d)
+  get_or-set [] j i a h = absurd (not-suc-le-zero h)
+  get_or-set (x ∷ xs) zero zero a h = refl
+  get_or-set (x ∷ xs) zero (suc i) a h = rw (eqb-suc-zero i) refl
+  get_or-set (x ∷ xs) (suc j) zero a h = rw (eqb-zero-suc j) refl
+  get_or-set (x ∷ xs) (suc j) (suc i) a h = rw (eqb-suc-suc i j) (get_or-set xs j i a (le_of_suc-le-suc h))
 
   -- sixteen words l, of which word i is w i
   record Holds (l : List A) (w : ℕ → A) : Type 0 where
@@ -30,7 +30,7 @@ module _ {A : Type 0} (d : A) where
   put : {l : List A} {w : ℕ → A} (j : ℕ) (a : A) → j < 16 → Holds l w → Holds (set l j a) (λ i. cond (eqb i j) a (w i))
   put {l} j a lt h = record {
     size = length-set l j a ∙ h.size;
-    at = λ i. get_d_set l j i a (rw h.size lt) ∙ ap (λ (o : A). cond (eqb i j) a o) (h.at i);
+    at = λ i. get_or-set l j i a (rw h.size lt) ∙ ap (λ (o : A). cond (eqb i j) a o) (h.at i);
   }
 
   pub set_diagonal-word : (x y z : A) (m : List A) → length m ≡ 16 → (i : ℕ) → get_or (set_diagonal x y z m) i d ≡ diagonal_word x y z i (get_or m i d)

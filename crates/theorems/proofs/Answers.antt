@@ -37,7 +37,8 @@ pub record AcceptedIs (sec : Section) (droom : DeriveRoom) (s : SkeletonRow) (u 
 
 pub accepted-is :
     (sec : Section) (room : Room) (droom : DeriveRoom) (root : ℕ) (s : SkeletonRow) (u : Tables) (m : ℕ) →
-    read_skeleton sec room root no_rows ≡ done (some s, u) → check sec room droom root ≡ done (some m) → AcceptedIs sec droom s u m
+    read_skeleton sec room root no_rows ≡ done (some s, u) → check sec room droom root ≡ done (some m) → AcceptedIs sec droom s
+    u m
 unfolding check read check_from verdict
 accepted-is sec room droom root s u m e a =
     let r = read_of s u in

@@ -126,9 +126,9 @@ module _ (ts rows : List ℕ) (m : ℕ) (e : rows ≡ laid (flat_map entry_words
     unfolding bucket_rows
     length-bucket_rows = length-up_from (λ b. link_below ts (count ts) b (length ts)) 0 (count ts)
 
-    get_d_head : (b : ℕ) → b < count ts → get_or heads b 0 ≡ link_below ts (count ts) b (length ts)
+    get_or_head : (b : ℕ) → b < count ts → get_or heads b 0 ≡ link_below ts (count ts) b (length ts)
     unfolding bucket_rows
-    get_d_head b h =
+    get_or_head b h =
         rw f (get_or-append (bucket_rows ts) (replicate (l - length (bucket_rows ts)) 0) 0 b (omega (arith, length-bucket_rows)))
         ∙ get_or-up_from (λ b. link_below ts (count ts) b (length ts)) 0 0 (count ts) b h
         ∙ ap (λ (k : ℕ). link_below ts (count ts) k (length ts)) (zero-add b)
@@ -139,7 +139,7 @@ module _ (ts rows : List ℕ) (m : ℕ) (e : rows ≡ laid (flat_map entry_words
         below_or_past b (count ts)
         (λ h. few_or_many (length ts)
         (λ k. absurd (omega (arith, few-buckets (length ts) k)))
-        (λ k. omega (arith, get_d_head b h, link_le ts (count ts) b (length ts), many_entries (length ts) k)))
+        (λ k. omega (arith, get_or_head b h, link_le ts (count ts) b (length ts), many_entries (length ts) k)))
         (λ h. rw (f, laid-past (bucket_rows ts) l b (omega (arith, length-bucket_rows))) (omega arith))
 
     map-linked :

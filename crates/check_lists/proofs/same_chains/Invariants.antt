@@ -6,7 +6,8 @@ use Rattle.check_lists.proofs.Entries.{chains_same}
 use Rattle.check_lists.proofs.same_chains.Given as goal
 
 abbrev pub invariant-loop-i : goal.invariant-loop-i
-invariant-loop-i l = Agreeing (chains_same (entries_in l.entries) (entries_in l.derived) l.n) l.buckets l.count l.heads l.c l.k l.i
+invariant-loop-i l =
+    Agreeing (chains_same (entries_in l.entries) (entries_in l.derived) l.n) l.buckets l.count l.heads l.c l.k l.i
 
 abbrev pub decreases-loop-i : goal.decreases-loop-i
 decreases-loop-i l = l.k - l.i

@@ -19,5 +19,6 @@ pub returns-else-not-same_chains : goal.returns-else-not-same_chains
 returns-else-not-same_chains c =
     record {
       answer =
-          chains_same_lem _ _ _ _ _ _ (ap tagged_of c.in-Done.is) c.same_chains.ensures.answer (ap not c.if-not-same_chains.false);
+          chains_same_lem _ _ _ _ _ _ (ap tagged_of c.in-Done.is) c.same_chains.ensures.answer
+          (ap not c.if-not-same_chains.false);
     }

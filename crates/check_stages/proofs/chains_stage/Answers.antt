@@ -6,4 +6,14 @@ use Rattle.check_stages.proofs.chains_stage.Goals as goal
 
 pub returns : goal.returns
 returns c =
-    record { answer = chains_stage_lem c.args.n c.args.bones.now c.args.count c.args.buckets.now c.args.entries.now _ _ c.chains_judged-r.ensures.answer c.build_bone_tags-derived.ensures.answer c.build_bone_tags-derived.ensures.buckets c.build_bone_tags-derived.ensures.entries; work = (c.clear32.ensures.rows ∙ ap cleared c.build_bone_tags-derived.auto.buckets, c.clear32-2.ensures.rows ∙ ap cleared c.build_bone_tags-derived.auto.entries) }
+    record {
+      answer =
+          chains_stage_lem c.args.n c.args.bones.now c.args.count c.args.buckets.now c.args.entries.now _ _
+          c.chains_judged-r.ensures.answer c.build_bone_tags-derived.ensures.answer c.build_bone_tags-derived.ensures.buckets
+          c.build_bone_tags-derived.ensures.entries;
+      work = (
+        c.clear32.ensures.rows ∙ ap cleared c.build_bone_tags-derived.auto.buckets,
+        c.clear32-2.ensures.rows ∙ ap cleared
+            c.build_bone_tags-derived.auto.entries,
+      );
+    }

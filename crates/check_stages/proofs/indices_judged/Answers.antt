@@ -9,14 +9,16 @@ pub returns-then-not-same_halves : goal.returns-then-not-same_halves
 returns-then-not-same_halves c =
     record {
       answer =
-          parents_differ _ _ _ _ _ _ _ (ap indexed_of c.in-Done.is) c.same_halves.ensures.answer (ap not c.if-not-same_halves.true);
+          parents_differ _ _ _ _ _ _ _ (ap indexed_of c.in-Done.is) c.same_halves.ensures.answer
+          (ap not c.if-not-same_halves.true);
     }
 
 pub returns-then-not-same_halves-2 : goal.returns-then-not-same_halves-2
 returns-then-not-same_halves-2 c =
     record {
       answer =
-          children_differ _ _ _ _ _ _ _ (ap indexed_of c.in-Done.is) c.same_halves.ensures.answer (ap not c.if-not-same_halves.false)
+          children_differ _ _ _ _ _ _ _ (ap indexed_of c.in-Done.is) c.same_halves.ensures.answer
+          (ap not c.if-not-same_halves.false)
           c.same_halves-in-Done.ensures.answer (ap not c.if-not-same_halves-2.true);
     }
 

@@ -6,4 +6,15 @@ use Rattle.check_stages.proofs.indices_stage.Goals as goal
 
 pub returns : goal.returns
 returns c =
-    record { answer = indices_stage_lem c.args.n c.args.bones.now c.args.p c.args.parents.now c.args.c c.args.children.now _ _ _ c.indices_judged-r.ensures.answer c.build_indices-derived.ensures.answer c.build_indices-derived.ensures.parents c.build_indices-derived.ensures.children; work = (c.clear16.ensures.rows ∙ ap cleared c.build_indices-derived.auto.parents, c.clear16-2.ensures.rows ∙ ap cleared c.build_indices-derived.auto.children, c.build_indices-derived.ensures.pending) }
+    record {
+      answer =
+          indices_stage_lem c.args.n c.args.bones.now c.args.p c.args.parents.now c.args.c c.args.children.now _ _ _
+          c.indices_judged-r.ensures.answer c.build_indices-derived.ensures.answer c.build_indices-derived.ensures.parents
+          c.build_indices-derived.ensures.children;
+      work = (
+        c.clear16.ensures.rows ∙ ap cleared c.build_indices-derived.auto.parents,
+        c.clear16-2.ensures.rows ∙ ap cleared
+            c.build_indices-derived.auto.children,
+        c.build_indices-derived.ensures.pending,
+      );
+    }

@@ -13,14 +13,16 @@ pub returns-then-not-same_words : goal.returns-then-not-same_words
 returns-then-not-same_words c =
     record {
       answer =
-          inverse_differs _ _ _ _ _ _ _ (ap transformed_of c.in-Done.is) c.same_words.ensures.answer (ap not c.if-not-same_words.true);
+          inverse_differs _ _ _ _ _ _ _ (ap transformed_of c.in-Done.is) c.same_words.ensures.answer
+          (ap not c.if-not-same_words.true);
     }
 
 pub returns-then-not-same_words-2 : goal.returns-then-not-same_words-2
 returns-then-not-same_words-2 c =
     record {
       answer =
-          local_differs _ _ _ _ _ _ _ (ap transformed_of c.in-Done.is) c.same_words.ensures.answer (ap not c.if-not-same_words.false)
+          local_differs _ _ _ _ _ _ _ (ap transformed_of c.in-Done.is) c.same_words.ensures.answer
+          (ap not c.if-not-same_words.false)
           c.same_words-in-Done.ensures.answer (ap not c.if-not-same_words-2.true);
     }
 
@@ -31,6 +33,7 @@ pub returns-else-not-same_words-2 : goal.returns-else-not-same_words-2
 returns-else-not-same_words-2 c =
     record {
       answer =
-          matrices_same _ _ _ _ _ _ _ (ap transformed_of c.in-Done.is) c.same_words.ensures.answer (ap not c.if-not-same_words.false)
+          matrices_same _ _ _ _ _ _ _ (ap transformed_of c.in-Done.is) c.same_words.ensures.answer
+          (ap not c.if-not-same_words.false)
           c.same_words-in-Done.ensures.answer (ap not c.if-not-same_words-2.false);
     }

@@ -10,4 +10,14 @@ matrices_judged-r-requires c =
 
 pub returns : goal.returns
 returns c =
-    record { answer = matrices_stage_lem c.args.n c.args.bones.now c.args.i c.args.inverse.now c.args.l c.args.local.now c.args.dinverse.now c.args.dlocal.now c.matrices_judged-r.ensures.answer c.build_transformations-derived.ensures.answer c.build_transformations-derived.ensures.rows; work = (c.clear32.ensures.rows ∙ ap cleared c.build_transformations-derived.auto.inverse, c.clear32-2.ensures.rows ∙ ap cleared c.build_transformations-derived.auto.local) }
+    record {
+      answer =
+          matrices_stage_lem c.args.n c.args.bones.now c.args.i c.args.inverse.now c.args.l c.args.local.now c.args.dinverse.now
+          c.args.dlocal.now c.matrices_judged-r.ensures.answer c.build_transformations-derived.ensures.answer
+          c.build_transformations-derived.ensures.rows;
+      work = (
+        c.clear32.ensures.rows ∙ ap cleared c.build_transformations-derived.auto.inverse,
+        c.clear32-2.ensures.rows ∙ ap
+            cleared c.build_transformations-derived.auto.local,
+      );
+    }

@@ -5,10 +5,16 @@ use Rattle.tables.proofs.Rooms.{enough_derives, derives_not}
 use Rattle.check_stages.proofs.room.Goals as goal
 
 pub returns-then-buckets-bucket_count : goal.returns-then-buckets-bucket_count
-returns-then-buckets-bucket_count c = record { answer = sym (derives_not _ _ _ _ _ _ _ _ (λ h. omega (arith, h.buckets, c.bucket_count.ensures.answer))) }
+returns-then-buckets-bucket_count c =
+    record {
+      answer = sym (derives_not _ _ _ _ _ _ _ _ (λ h. omega (arith, h.buckets, c.bucket_count.ensures.answer)));
+    }
 
 pub returns-then-entries-entry_count : goal.returns-then-entries-entry_count
-returns-then-entries-entry_count c = record { answer = sym (derives_not _ _ _ _ _ _ _ _ (λ h. omega (arith, h.entries, c.entry_count.ensures.answer))) }
+returns-then-entries-entry_count c =
+    record {
+      answer = sym (derives_not _ _ _ _ _ _ _ _ (λ h. omega (arith, h.entries, c.entry_count.ensures.answer)));
+    }
 
 pub returns-then-inverse-n : goal.returns-then-inverse-n
 returns-then-inverse-n c = record { answer = sym (derives_not _ _ _ _ _ _ _ _ (λ h. omega (arith, h.inverse))) }

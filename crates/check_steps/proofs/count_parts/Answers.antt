@@ -6,7 +6,8 @@ pub returns-in-Read : goal.returns-in-Read
 returns-in-Read c =
     record {
       answer =
-          counts-read c.in-Read.is c.part_rows.ensures.answer c.part_rows-in-Read.ensures.answer c.part_rows-in-Read-2.ensures.answer
+          counts-read c.in-Read.is c.part_rows.ensures.answer c.part_rows-in-Read.ensures.answer
+          c.part_rows-in-Read-2.ensures.answer
           c.part_rows-in-Read-3.ensures.answer c.part_rows-in-Read-4.ensures.answer c.part_rows-in-Read-5.ensures.answer;
     }
 

@@ -88,4 +88,5 @@ shape_of-out c = simp length-set
 
 pub returns : goal.returns
 returns c = let all =
-    all_fit c.in_turn-t.result c.args.out.now c.if-out-lt-NUMBERS.false c.in_turn-t.ensures.answer c.status.ensures in record { answer = all.0; slice = all.1 }
+    all_fit c.in_turn-t.result c.args.out.now c.if-out-lt-NUMBERS.false c.in_turn-t.ensures.answer c.status.ensures in record
+    { answer = all.0; slice = all.1 }

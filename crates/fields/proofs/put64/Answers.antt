@@ -9,8 +9,10 @@ store64-requires c =
 
 pub returns-then-stands : goal.returns-then-stands
 returns-then-stands c = let all =
-    store-inside 8 c.args.d.now c.args.at c.stands.ensures.answer c.args.v c.if-stands.true c.store64.ensures in record { answer = all.0; slice = all.1 }
+    store-inside 8 c.args.d.now c.args.at c.stands.ensures.answer c.args.v c.if-stands.true c.store64.ensures in record
+    { answer = all.0; slice = all.1 }
 
 pub returns : goal.returns
 returns c = let all =
-    store_outside 8 c.args.d.now c.args.at c.stands.ensures.answer c.args.v c.if-stands.false in record { answer = all.0; slice = all.1 }
+    store_outside 8 c.args.d.now c.args.at c.stands.ensures.answer c.args.v c.if-stands.false in record
+    { answer = all.0; slice = all.1 }

@@ -44,7 +44,8 @@ loop-i-preserved c =
     let b = c in
     let s = b.args.s.now in (
       search rules,
-      mix-drop s b.loop-i.i b.loop-i.hash (omega arith) c.wrapping_add_u32-hash.ensures.value c.wrapping_add_u32-hash-in-loop-i.ensures.value
+      mix-drop s b.loop-i.i b.loop-i.hash (omega arith) c.wrapping_add_u32-hash.ensures.value
+          c.wrapping_add_u32-hash-in-loop-i.ensures.value
           ∙ b.loop-i.invariant.1,
     )
 
@@ -54,7 +55,8 @@ returns c =
       answer =
           let b = c in
           let s = b.args.s.now in
-          mix-end s b.loop-i.i b.loop-i.hash (omega arith) (omega arith) b.loop-i.invariant.1 c.wrapping_add_u32-hash-2.ensures.value
+          mix-end s b.loop-i.i b.loop-i.hash (omega arith) (omega arith) b.loop-i.invariant.1
+          c.wrapping_add_u32-hash-2.ensures.value
           refl
           c.wrapping_add_u32-hash-3.ensures.value;
     }

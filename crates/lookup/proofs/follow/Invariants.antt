@@ -6,7 +6,8 @@ use Rattle.blocks.specs.Places.{section}
 use Rattle.lookup.proofs.follow.Given as goal
 
 abbrev pub invariant-loop-at : goal.invariant-loop-at
-invariant-loop-at l = Definitions.follow (section l.sys l.gfx) l.tag l.left l.at ≡ Definitions.follow (section l.sys l.gfx) l.tag l.n l.va
+invariant-loop-at l =
+    Definitions.follow (section l.sys l.gfx) l.tag l.left l.at ≡ Definitions.follow (section l.sys l.gfx) l.tag l.n l.va
 
 abbrev pub decreases-loop-at : goal.decreases-loop-at
 decreases-loop-at l = l.left

@@ -35,7 +35,8 @@ returns-in-System c =
 pub returns-in-Graphics : goal.returns-in-Graphics
 returns-in-Graphics c =
     c.follow-in-Graphics.ensures
-    ∙ array-graphics _ _ _ c.if-va-eq0.false c.if-c-eq0.false c.locate.ensures.answer c.in-Graphics.is c.u64_at-first-in-Graphics.ensures.answer
+    ∙ array-graphics _ _ _ c.if-va-eq0.false c.if-c-eq0.false c.locate.ensures.answer c.in-Graphics.is
+    c.u64_at-first-in-Graphics.ensures.answer
 
 pub returns-in-Refused : goal.returns-in-Refused
 returns-in-Refused c =

@@ -91,7 +91,8 @@ shape_of-pool-in-Refused-read_indices c =
 pub returns-in-Refused-read_indices : goal.returns-in-Refused-read_indices
 returns-in-Refused-read_indices c =
     fill_no_indices _ _ _ _ _ _ _ _ _ _ _ c.header_at.ensures.answer c.in-At.is c.read_rows.ensures.tables
-    c.in-Done.is c.read_matrices.ensures.tables c.in-Done-read_matrices.is c.read_indices.ensures.tables c.in-Refused-read_indices.is
+    c.in-Done.is c.read_matrices.ensures.tables c.in-Done-read_matrices.is c.read_indices.ensures.tables
+    c.in-Refused-read_indices.is
 
 pub shape_of-bones-in-Full : goal.shape_of-bones-in-Full
 shape_of-bones-in-Full c =

@@ -20,14 +20,16 @@ pub returns-then-pointer-eq-HEADER_SIZE : goal.returns-then-pointer-eq-HEADER_SI
 returns-then-pointer-eq-HEADER_SIZE c =
     record {
       tables =
-          block-nowhere _ c.args.pointer c.args.n c.args.used _ _ c.if-pointer-lt-HEADER_SIZE.false c.if-pointer-eq-HEADER_SIZE.true;
+          block-nowhere _ c.args.pointer c.args.n c.args.used _ _ c.if-pointer-lt-HEADER_SIZE.false
+          c.if-pointer-eq-HEADER_SIZE.true;
     }
 
 pub returns-in-Nothing : goal.returns-in-Nothing
 returns-in-Nothing c =
     record {
       tables =
-          block-unread _ c.args.pointer c.args.n c.args.used _ _ c.if-pointer-lt-HEADER_SIZE.false c.if-pointer-eq-HEADER_SIZE.false
+          block-unread _ c.args.pointer c.args.n c.args.used _ _ c.if-pointer-lt-HEADER_SIZE.false
+          c.if-pointer-eq-HEADER_SIZE.false
           c.cached_as.ensures.answer c.in-Nothing.is c.new_block.ensures;
     }
 
@@ -35,7 +37,8 @@ pub returns-in-At : goal.returns-in-At
 returns-in-At c =
     record {
       tables =
-          block_again _ c.args.pointer c.args.n c.args.used _ _ c.if-pointer-lt-HEADER_SIZE.false c.if-pointer-eq-HEADER_SIZE.false
+          block_again _ c.args.pointer c.args.n c.args.used _ _ c.if-pointer-lt-HEADER_SIZE.false
+          c.if-pointer-eq-HEADER_SIZE.false
           c.cached_as.ensures.answer c.in-At.is;
     }
 
@@ -43,6 +46,7 @@ pub returns-in-Refused : goal.returns-in-Refused
 returns-in-Refused c =
     record {
       tables =
-          block-other _ c.args.pointer c.args.n c.args.used _ _ c.if-pointer-lt-HEADER_SIZE.false c.if-pointer-eq-HEADER_SIZE.false
+          block-other _ c.args.pointer c.args.n c.args.used _ _ c.if-pointer-lt-HEADER_SIZE.false
+          c.if-pointer-eq-HEADER_SIZE.false
           c.cached_as.ensures.answer c.in-Refused.is;
     }

@@ -9,7 +9,8 @@ pub returns-then-va-eq0 : goal.returns-then-va-eq0
 returns-then-va-eq0 c =
     record {
       list =
-          reads_absent (section c.args.sys.now c.args.gfx.now) (matrix_table c.args.which) c.args.va c.args.n c.args.used c.args.other.now
+          reads_absent (section c.args.sys.now c.args.gfx.now) (matrix_table c.args.which) c.args.va c.args.n c.args.used
+          c.args.other.now
           c.if-va-eq0.true;
     }
 
@@ -17,7 +18,8 @@ pub returns-in-Again : goal.returns-in-Again
 returns-in-Again c =
     record {
       list =
-          reads_again (section c.args.sys.now c.args.gfx.now) (matrix_table c.args.which) c.args.va c.args.n c.args.used c.args.other.now
+          reads_again (section c.args.sys.now c.args.gfx.now) (matrix_table c.args.which) c.args.va c.args.n c.args.used
+          c.args.other.now
           c.if-va-eq0.false c.table-table.ensures c.way_of.ensures.answer c.in-Again.is;
     }
 
@@ -25,7 +27,8 @@ pub returns-in-Copy : goal.returns-in-Copy
 returns-in-Copy c =
     record {
       list =
-          reads_copy (section c.args.sys.now c.args.gfx.now) (matrix_table c.args.which) c.args.va c.args.n c.args.used c.args.other.now
+          reads_copy (section c.args.sys.now c.args.gfx.now) (matrix_table c.args.which) c.args.va c.args.n c.args.used
+          c.args.other.now
           c.if-va-eq0.false c.table-table.ensures c.way_of.ensures.answer c.in-Copy.is
           (copy_matrix c.args.which c.copy_matrices.ensures.list);
     }
@@ -34,7 +37,8 @@ pub returns-in-Over : goal.returns-in-Over
 returns-in-Over c =
     record {
       list =
-          reads_over (section c.args.sys.now c.args.gfx.now) (matrix_table c.args.which) c.args.va c.args.n c.args.used c.args.other.now
+          reads_over (section c.args.sys.now c.args.gfx.now) (matrix_table c.args.which) c.args.va c.args.n c.args.used
+          c.args.other.now
           c.if-va-eq0.false c.table-table.ensures c.way_of.ensures.answer c.in-Over.is
           (new-matrix c.args.n c.args.which c.new_matrices.ensures.list);
     }
@@ -43,7 +47,8 @@ pub returns-in-New : goal.returns-in-New
 returns-in-New c =
     record {
       list =
-          reads-new (section c.args.sys.now c.args.gfx.now) (matrix_table c.args.which) c.args.va c.args.n c.args.used c.args.other.now
+          reads-new (section c.args.sys.now c.args.gfx.now) (matrix_table c.args.which) c.args.va c.args.n c.args.used
+          c.args.other.now
           c.if-va-eq0.false c.table-table.ensures c.way_of.ensures.answer c.in-New.is
           (new-matrix c.args.n c.args.which c.new_matrices-list.ensures.list) c.pooled.ensures.answer;
     }

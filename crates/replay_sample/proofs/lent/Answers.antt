@@ -8,10 +8,12 @@ returns-then-run-eq-LONGER c =
 
 pub returns-then-run-t : goal.returns-then-run-t
 returns-then-run-t c =
-    lent-short c.args.case.now c.args.run c.args.t c.args.most c.if-run-eq-LONGER.false c.part.ensures.part c.number32-n.ensures.answer
+    lent-short c.args.case.now c.args.run c.args.t c.args.most c.if-run-eq-LONGER.false c.part.ensures.part
+    c.number32-n.ensures.answer
     c.if-run-t.true c.one_less.ensures c.least.ensures
 
 pub returns : goal.returns
 returns c =
-    lent-full c.args.case.now c.args.run c.args.t c.args.most c.if-run-eq-LONGER.false c.part.ensures.part c.number32-n.ensures.answer
+    lent-full c.args.case.now c.args.run c.args.t c.args.most c.if-run-eq-LONGER.false c.part.ensures.part
+    c.number32-n.ensures.answer
     c.if-run-t.false c.least-2.ensures

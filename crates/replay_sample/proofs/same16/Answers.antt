@@ -10,7 +10,8 @@ pub returns-then-t-e : goal.returns-then-t-e
 returns-then-t-e c =
     record {
       answer =
-          differs_short c.args.t.now (numbers 2 c.args.e.now) (length c.args.e.now / 2) 0 (length-numbers 2 c.args.e.now) c.if-t-e.true;
+          differs_short c.args.t.now (numbers 2 c.args.e.now) (length c.args.e.now / 2) 0 (length-numbers 2 c.args.e.now)
+          c.if-t-e.true;
     }
 
 pub loop-i-init : goal.loop-i-init
@@ -20,13 +21,15 @@ pub returns-then-have-want : goal.returns-then-have-want
 returns-then-have-want c =
     record {
       answer =
-          differs c.args.t.now (numbers 2 c.args.e.now) (length c.args.e.now / 2) 0 (length-numbers 2 c.args.e.now) c.if-t-e.false c.loop-i.invariant
+          differs c.args.t.now (numbers 2 c.args.e.now) (length c.args.e.now / 2) 0 (length-numbers 2 c.args.e.now)
+          c.if-t-e.false c.loop-i.invariant
           c.number16-want.result c.loop-i-test.true c.number16-want.ensures c.if-have-want.true;
     }
 
 pub loop-i-preserved : goal.loop-i-preserved
 loop-i-preserved c =
-    turn c.args.t.now (numbers 2 c.args.e.now) (length c.args.e.now / 2) 0 (length-numbers 2 c.args.e.now) c.if-t-e.false c.loop-i.invariant
+    turn c.args.t.now (numbers 2 c.args.e.now) (length c.args.e.now / 2) 0 (length-numbers 2 c.args.e.now) c.if-t-e.false
+    c.loop-i.invariant
     c.number16-want.result c.loop-i-test.true c.number16-want.ensures c.if-have-want.false
 
 pub returns : goal.returns

@@ -31,5 +31,6 @@ pub returns : goal.returns
 returns c =
     record {
       answer =
-          ends c.args.t.now c.args.e.now (length c.args.e.now) c.args.rest refl c.if-t-e.false c.loop-i.invariant c.loop-i-test.false;
+          ends c.args.t.now c.args.e.now (length c.args.e.now) c.args.rest refl c.if-t-e.false c.loop-i.invariant
+          c.loop-i-test.false;
     }

@@ -11,4 +11,5 @@ returns-then-p-t c = let all = put_refused c.args.t.now c.args.p _ c.if-p-t.true
 pub returns : goal.returns
 returns c =
     let n : length c.bone_words-w.result ≡ 21 = search rules in let all =
-    put-done c.args.t.now c.args.p _ c.if-p-t.false n c.bone_words-w.ensures.answer c.copy_words.ensures.table in record { answer = all.0; rows = all.1 }
+    put-done c.args.t.now c.args.p _ c.if-p-t.false n c.bone_words-w.ensures.answer c.copy_words.ensures.table in record
+    { answer = all.0; rows = all.1 }

@@ -29,4 +29,22 @@ shape_of-out c = c.attempt-r.auto.out
 
 pub returns : goal.returns
 returns c =
-    record { written = c.attempt-r.ensures.written; tables = record { buckets = c.clear_tables.ensures.tables.buckets ∙ ap cleared c.attempt-r.auto.buckets; entries = c.clear_tables.ensures.tables.entries ∙ ap cleared c.attempt-r.auto.entries; inverse = c.clear_tables.ensures.tables.inverse ∙ ap cleared c.attempt-r.auto.inverse; local = c.clear_tables.ensures.tables.local ∙ ap cleared c.attempt-r.auto.local; parents = c.clear_tables.ensures.tables.parents ∙ ap cleared c.attempt-r.auto.parents; children = c.clear_tables.ensures.tables.children ∙ ap cleared c.attempt-r.auto.children; pending = c.clear_tables.ensures.tables.pending ∙ ap cleared c.attempt-r.auto.pending } }
+    record {
+      written = c.attempt-r.ensures.written;
+      tables =
+          record {
+            buckets = c.clear_tables.ensures.tables.buckets ∙ ap cleared c.attempt-r.auto.buckets;
+            entries =
+                c.clear_tables.ensures.tables.entries ∙ ap cleared c.attempt-r.auto.entries;
+            inverse =
+                c.clear_tables.ensures.tables.inverse ∙ ap cleared c.attempt-r.auto.inverse;
+            local =
+                c.clear_tables.ensures.tables.local ∙ ap cleared c.attempt-r.auto.local;
+            parents =
+                c.clear_tables.ensures.tables.parents ∙ ap cleared c.attempt-r.auto.parents;
+            children =
+                c.clear_tables.ensures.tables.children ∙ ap cleared c.attempt-r.auto.children;
+            pending =
+                c.clear_tables.ensures.tables.pending ∙ ap cleared c.attempt-r.auto.pending;
+          };
+    }

@@ -24,10 +24,14 @@ returns-then-stands c =
     record {
       answer =
           λ i. record {
-            x = word-inside 16 c.args.s.now c.args.at c.stands.ensures.answer c.args.at c.if-stands.true (omega arith) c.u32_at.ensures.answer i;
-            y = word-inside 16 c.args.s.now c.args.at c.stands.ensures.answer (c.args.at + 4) c.if-stands.true (omega arith) c.u32_at-then-stands.ensures.answer i;
-            z = word-inside 16 c.args.s.now c.args.at c.stands.ensures.answer (c.args.at + 8) c.if-stands.true (omega arith) c.u32_at-then-stands-2.ensures.answer i;
-            w = word-inside 16 c.args.s.now c.args.at c.stands.ensures.answer (c.args.at + 12) c.if-stands.true (omega arith) c.u32_at-then-stands-3.ensures.answer i;
+            x = word-inside 16 c.args.s.now c.args.at c.stands.ensures.answer c.args.at c.if-stands.true (omega arith)
+                c.u32_at.ensures.answer i;
+            y = word-inside 16 c.args.s.now c.args.at c.stands.ensures.answer (c.args.at + 4) c.if-stands.true (omega arith)
+                c.u32_at-then-stands.ensures.answer i;
+            z = word-inside 16 c.args.s.now c.args.at c.stands.ensures.answer (c.args.at + 8) c.if-stands.true (omega arith)
+                c.u32_at-then-stands-2.ensures.answer i;
+            w = word-inside 16 c.args.s.now c.args.at c.stands.ensures.answer (c.args.at + 12) c.if-stands.true (omega arith)
+                c.u32_at-then-stands-3.ensures.answer i;
           };
     }
 

@@ -13,7 +13,8 @@ returns-then-stands c =
       answer =
           let s = section c.args.sys.now c.args.gfx.now in
           let o = c.args.va % window in
-          locates_here s c.args.va c.args.n (spot_in s.system o) (spot-system s c.args.va c.if-half-eq-SYSTEM.true) (System o) refl
+          locates_here s c.args.va c.args.n (spot_in s.system o) (spot-system s c.args.va c.if-half-eq-SYSTEM.true) (System o)
+          refl
           (sym c.stands.ensures.answer ∙ c.if-stands.true);
     }
 
@@ -22,7 +23,8 @@ returns-then-half-eq-SYSTEM c =
     record {
       answer =
           let s = section c.args.sys.now c.args.gfx.now in
-          locates_past s c.args.va c.args.n (spot_in s.system (c.args.va % window)) (spot-system s c.args.va c.if-half-eq-SYSTEM.true)
+          locates_past s c.args.va c.args.n (spot_in s.system (c.args.va % window))
+          (spot-system s c.args.va c.if-half-eq-SYSTEM.true)
           (sym c.stands.ensures.answer ∙ c.if-stands.false);
     }
 
@@ -32,7 +34,8 @@ returns-then-stands-2 c =
       answer =
           let s = section c.args.sys.now c.args.gfx.now in
           let o = c.args.va % window in
-          locates_here s c.args.va c.args.n (spot_in s.graphics o) (spot-graphics s c.args.va c.if-half-eq-SYSTEM.false c.if-half-eq-GRAPHICS.true)
+          locates_here s c.args.va c.args.n (spot_in s.graphics o)
+          (spot-graphics s c.args.va c.if-half-eq-SYSTEM.false c.if-half-eq-GRAPHICS.true)
           (Graphics o) refl
           (sym c.stands-then-half-eq-GRAPHICS.ensures.answer ∙ c.if-stands-2.true);
     }

@@ -74,5 +74,8 @@ returns-then-row-n c =
     (sym (home_large c.args.va c.args.rows c.if-n-lt8192.false ∙ mod-eq_of_lt c.if-row-n.true), c.if-row-n.true)
 
 pub returns : goal.returns
-returns c =
-    (sym (behind-is c.args.va c.args.rows c.if-n-lt8192.false c.if-row-n.false), behind_lt c.args.va c.args.rows c.if-n-lt8192.false)
+returns c = (
+  sym (behind-is c.args.va c.args.rows c.if-n-lt8192.false c.if-row-n.false),
+  behind_lt c.args.va c.args.rows
+      c.if-n-lt8192.false,
+)

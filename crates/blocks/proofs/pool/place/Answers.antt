@@ -9,5 +9,6 @@ pub returns-then-ends_at : goal.returns-then-ends_at
 returns-then-ends_at c =
     record {
       row =
-          placed_first c.args.pool.now c.args.va c.home-h.result c.home-h.ensures.0 c.home-h.ensures.1 (c.ends_at.ensures.here c.if-ends_at.true);
+          placed_first c.args.pool.now c.args.va c.home-h.result c.home-h.ensures.0 c.home-h.ensures.1
+          (c.ends_at.ensures.here c.if-ends_at.true);
     }

@@ -10,7 +10,8 @@ returns-then-i-pool c =
       table =
           rw c.store.ensures.table
           (record {
-            at = λ g. stores-done c.args.pool.now (pool_row c.args.va (meant_kind c.args.kind) c.args.first c.args.count) c.args.i g
+            at = λ g. stores-done c.args.pool.now (pool_row c.args.va (meant_kind c.args.kind) c.args.first c.args.count)
+                c.args.i g
                 c.if-i-pool.true;
           });
     }

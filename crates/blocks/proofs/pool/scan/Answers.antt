@@ -7,7 +7,8 @@ loop-i-init c = passed_none c.args.pool.now c.args.va c.args.from c.args.to c.re
 
 pub returns-then-ends_at : goal.returns-then-ends_at
 returns-then-ends_at c =
-    scanned-here c.args.pool.now c.args.va c.args.from c.args.to c.loop-i.i c.loop-i.invariant (c.ends_at.ensures.here c.if-ends_at.true)
+    scanned-here c.args.pool.now c.args.va c.args.from c.args.to c.loop-i.i c.loop-i.invariant
+    (c.ends_at.ensures.here c.if-ends_at.true)
 
 pub loop-i-preserved : goal.loop-i-preserved
 loop-i-preserved c =

@@ -24,7 +24,8 @@ pub returns-then-pool-at : goal.returns-then-pool-at
 returns-then-pool-at c =
     record {
       end =
-          along-found c.args.pool.now c.args.va c.loop-next.bits c.loop-next.side c.loop-next.at c.loop-next.above c.loop-next.next
+          along-found c.args.pool.now c.args.va c.loop-next.bits c.loop-next.side c.loop-next.at c.loop-next.above
+          c.loop-next.next
           c.loop-next.invariant c.loop-next-test.true c.if-next-above.true
           c.if-pool-at.true;
     }

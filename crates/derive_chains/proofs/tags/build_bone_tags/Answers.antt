@@ -12,16 +12,20 @@ returns-in-Refused c =
     let told = c.tags_room-room.ensures.answer
     in
     let ts : List ℕ = tags (bones_of c.args.n c.args.bones.now) in
-    let k = tags-refused _ _ c.args.buckets.now c.args.entries.now told (bucket_rows ts) (flat_map entry_words (entry_rows ts)) c.in-Refused.is c.clear32.ensures.rows c.clear32-2.ensures.rows in
+    let k = tags-refused _ _ c.args.buckets.now c.args.entries.now told (bucket_rows ts) (flat_map entry_words (entry_rows ts))
+    c.in-Refused.is c.clear32.ensures.rows c.clear32-2.ensures.rows in
     record { answer = k.0; buckets = k.1; entries = k.2 }
 
 pub enter_tags-requires : goal.enter_tags-requires
 enter_tags-requires c =
-    tags_go _ _ c.args.buckets.now c.args.entries.now c.tags_room-room.ensures.answer c.in_default.is c.bucket_count-count.ensures.answer c.clear32.ensures.rows c.clear32-2.ensures.rows
+    tags_go _ _ c.args.buckets.now c.args.entries.now c.tags_room-room.ensures.answer c.in_default.is
+    c.bucket_count-count.ensures.answer c.clear32.ensures.rows c.clear32-2.ensures.rows
 
 pub returns : goal.returns
 returns c =
     let ts : List ℕ = tags (bones_of c.args.n c.args.bones.now) in
-    let k = tags-done _ _ c.args.buckets.now c.args.entries.now c.tags_room-room.ensures.answer c.clear32.new.t c.clear32-2.new.t (bucket_rows ts) (flat_map
-    entry_words (entry_rows ts)) c.in_default.is c.bucket_count-count.ensures.answer c.clear32.auto.t c.clear32-2.auto.t c.enter_tags.ensures.rows.heads c.enter_tags.ensures.rows.rows in
+    let k = tags-done _ _ c.args.buckets.now c.args.entries.now c.tags_room-room.ensures.answer c.clear32.new.t
+    c.clear32-2.new.t (bucket_rows ts) (flat_map
+    entry_words (entry_rows ts)) c.in_default.is c.bucket_count-count.ensures.answer c.clear32.auto.t c.clear32-2.auto.t
+    c.enter_tags.ensures.rows.heads c.enter_tags.ensures.rows.rows in
     record { answer = k.0; buckets = k.1; entries = k.2 }

@@ -12,7 +12,12 @@ pub returns-then-bones-n : goal.returns-then-bones-n
 returns-then-bones-n c = record { answer = tags-bones _ _ _ _ c.if-n-gt-MOST.false c.if-bones-n.true }
 
 pub returns-then-buckets-bucket_count : goal.returns-then-buckets-bucket_count
-returns-then-buckets-bucket_count c = record { answer = tags-buckets _ _ _ _ c.if-n-gt-MOST.false c.if-bones-n.false c.bucket_count.ensures.answer c.if-buckets-bucket_count.true }
+returns-then-buckets-bucket_count c =
+    record {
+      answer =
+          tags-buckets _ _ _ _ c.if-n-gt-MOST.false c.if-bones-n.false c.bucket_count.ensures.answer
+          c.if-buckets-bucket_count.true;
+    }
 
 pub overflow_mul-entry_count : goal.overflow_mul-entry_count
 overflow_mul-entry_count c = omega (
@@ -23,7 +28,17 @@ overflow_mul-entry_count c = omega (
 )
 
 pub returns-then-entries-entry_count : goal.returns-then-entries-entry_count
-returns-then-entries-entry_count c = record { answer = tags-entries _ _ _ _ c.if-n-gt-MOST.false c.if-bones-n.false c.bucket_count.ensures.answer c.if-buckets-bucket_count.false c.entry_count.ensures.answer c.if-entries-entry_count.true }
+returns-then-entries-entry_count c =
+    record {
+      answer =
+          tags-entries _ _ _ _ c.if-n-gt-MOST.false c.if-bones-n.false c.bucket_count.ensures.answer
+          c.if-buckets-bucket_count.false c.entry_count.ensures.answer c.if-entries-entry_count.true;
+    }
 
 pub returns : goal.returns
-returns c = record { answer = tags_enough _ _ _ _ c.if-n-gt-MOST.false c.if-bones-n.false c.bucket_count.ensures.answer c.if-buckets-bucket_count.false c.entry_count.ensures.answer c.if-entries-entry_count.false }
+returns c =
+    record {
+      answer =
+          tags_enough _ _ _ _ c.if-n-gt-MOST.false c.if-bones-n.false c.bucket_count.ensures.answer
+          c.if-buckets-bucket_count.false c.entry_count.ensures.answer c.if-entries-entry_count.false;
+    }

@@ -30,7 +30,8 @@ pub loop-b-preserved : goal.loop-b-preserved
 loop-b-preserved c =
     let e = index_for c.args.bones.now c.args.parents.now _ c.loop-b-test.true c.index_at.ensures.answer in (
       indexed-kid _ _ _ _ c.loop-b-test.true c.loop-b.invariant.0,
-      kids-more _ _ _ _ _ (omega (arith, c.loop-b.invariant.0.room, c.loop-b-test.true)) (rw (← e) c.first_child.ensures.answer) c.loop-b.invariant.1,
+      kids-more _ _ _ _ _ (omega (arith, c.loop-b.invariant.0.room, c.loop-b-test.true)) (rw (← e) c.first_child.ensures.answer)
+          c.loop-b.invariant.1,
       omega (arith, c.loop-b-test.true),
       simp length-set c.loop-b.invariant.3,
     )

@@ -9,7 +9,8 @@ use Rattle.derive_children.specs.Indexing.{indices_for}
 use Rattle.derive_children.proofs.index.first_children.Given as goal
 
 abbrev pub invariant-loop-b : goal.invariant-loop-b
-invariant-loop-b l = IndexTable l.parents l.t 0 × Kids (indices_for l.bones l.parents) l.parents l.t l.b × (l.b ≤ length l.parents) ×
+invariant-loop-b l =
+    IndexTable l.parents l.t 0 × Kids (indices_for l.bones l.parents) l.parents l.t l.b × (l.b ≤ length l.parents) ×
     (length l.t ≡ length l.initial.t)
 
 abbrev pub decreases-loop-b : goal.decreases-loop-b

@@ -15,7 +15,8 @@ returns-then-parents-j c = record { answer = seek_found _ _ _ _ _ c.loop-at.inva
 
 pub loop-at-smaller : goal.loop-at-smaller
 loop-at-smaller c =
-    rw (link-word c.args.parents.now c.args.t.now c.loop-at.at c.loop-at-test.true) (seek_less _ _ _ _ _ c.loop-at.invariant.0 c.loop-at-test.true)
+    rw (link-word c.args.parents.now c.args.t.now c.loop-at.at c.loop-at-test.true)
+    (seek_less _ _ _ _ _ c.loop-at.invariant.0 c.loop-at-test.true)
 
 pub loop-at-preserved : goal.loop-at-preserved
 loop-at-preserved c =

@@ -9,13 +9,17 @@ pub returns-in-Refused : goal.returns-in-Refused
 returns-in-Refused c =
     record {
       answer =
-          indices-refused _ _ c.args.parents.now c.args.children.now c.args.pending.now c.indices_room-room.ensures.answer c.in-Refused.is c.clear16.ensures.rows c.clear16-2.ensures.rows;
+          indices-refused _ _ c.args.parents.now c.args.children.now c.args.pending.now c.indices_room-room.ensures.answer
+          c.in-Refused.is c.clear16.ensures.rows c.clear16-2.ensures.rows;
     }
 
 pub put_parents-requires : goal.put_parents-requires
 put_parents-requires c =
-    let f = indices-fit _ _ _ _ _ c.indices_room-room.ensures.answer c.in_default.is in
-    (omega (arith, f.parents_room, length-cleared c.args.parents.now c.clear16.ensures.rows), still-cleared c.args.parents.now c.clear16.ensures.rows)
+    let f = indices-fit _ _ _ _ _ c.indices_room-room.ensures.answer c.in_default.is in (
+      omega (arith, f.parents_room, length-cleared c.args.parents.now c.clear16.ensures.rows),
+      still-cleared c.args.parents.now
+          c.clear16.ensures.rows,
+    )
 
 pub slice_bounds-put_children-end : goal.slice_bounds-put_children-end
 slice_bounds-put_children-end c =
@@ -31,11 +35,14 @@ slice_bounds-put_children-end-2 c =
 pub put_children-count-requires : goal.put_children-count-requires
 put_children-count-requires c =
     let f = indices-fit _ _ _ _ _ c.indices_room-room.ensures.answer c.in_default.is in
-    list_room_lem c.args.n c.args.bones.now _ c.put_parents.ensures.rows f refl (length-cleared c.args.children.now c.clear16-2.ensures.rows) (still-cleared c.args.children.now c.clear16-2.ensures.rows)
+    list_room_lem c.args.n c.args.bones.now _ c.put_parents.ensures.rows f refl
+    (length-cleared c.args.children.now c.clear16-2.ensures.rows) (still-cleared c.args.children.now c.clear16-2.ensures.rows)
 
 pub returns : goal.returns
 returns c =
     record {
       answer =
-          indices-done _ _ c.args.parents.now c.args.children.now c.args.pending.now c.indices_room-room.ensures.answer c.in_default.is c.clear16.ensures.rows c.clear16-2.ensures.rows c.put_parents.ensures.rows c.put_children-count.ensures.answer;
+          indices-done _ _ c.args.parents.now c.args.children.now c.args.pending.now c.indices_room-room.ensures.answer
+          c.in_default.is c.clear16.ensures.rows c.clear16-2.ensures.rows c.put_parents.ensures.rows
+          c.put_children-count.ensures.answer;
     }

@@ -49,4 +49,9 @@ push-requires c = omega (
 )
 
 pub returns : goal.returns
-returns c = record { answer = layered _ _ _ _ _ _ _ _ _ _ _ _ _ _ _ _ _ c.take_four-f.ensures.answer c.push-d.ensures.answer c.push-c.ensures.answer c.push-b.ensures.answer c.push.ensures.answer (c.push.auto.t ∙ c.push-b.auto.t ∙ c.push-c.auto.t ∙ c.push-d.auto.t) }
+returns c =
+    record {
+      answer =
+          layered _ _ _ _ _ _ _ _ _ _ _ _ _ _ _ _ _ c.take_four-f.ensures.answer c.push-d.ensures.answer c.push-c.ensures.answer
+          c.push-b.ensures.answer c.push.ensures.answer (c.push.auto.t ∙ c.push-b.auto.t ∙ c.push-c.auto.t ∙ c.push-d.auto.t);
+    }

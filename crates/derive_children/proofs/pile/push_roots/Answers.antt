@@ -8,31 +8,87 @@ loop-r-init c = rooting_starts _ _ _ c.requires
 
 pub offset_bounds-parents-r : goal.offset_bounds-parents-r
 offset_bounds-parents-r c =
-    omega (arith, c.loop-r.invariant.ready.room, c.loop-r.invariant.bound, c.loop-r.invariant.most, c.loop-r.invariant.same, c.loop-r-test.true, c.well_formed)
+    omega (
+      arith,
+      c.loop-r.invariant.ready.room,
+      c.loop-r.invariant.bound,
+      c.loop-r.invariant.most,
+      c.loop-r.invariant.same,
+      c.loop-r-test.true,
+      c.well_formed,
+    )
 
 pub bounds-parents-r : goal.bounds-parents-r
 bounds-parents-r c =
-    omega (arith, c.loop-r.invariant.ready.room, c.loop-r.invariant.bound, c.loop-r.invariant.most, c.loop-r.invariant.same, c.loop-r-test.true, c.well_formed)
+    omega (
+      arith,
+      c.loop-r.invariant.ready.room,
+      c.loop-r.invariant.bound,
+      c.loop-r.invariant.most,
+      c.loop-r.invariant.same,
+      c.loop-r-test.true,
+      c.well_formed,
+    )
 
 pub overflow_add-n : goal.overflow_add-n
 overflow_add-n c =
-    omega (arith, c.loop-r.invariant.ready.room, c.loop-r.invariant.bound, c.loop-r.invariant.most, c.loop-r.invariant.same, c.loop-r-test.true, c.well_formed)
+    omega (
+      arith,
+      c.loop-r.invariant.ready.room,
+      c.loop-r.invariant.bound,
+      c.loop-r.invariant.most,
+      c.loop-r.invariant.same,
+      c.loop-r-test.true,
+      c.well_formed,
+    )
 
 pub offset_bounds-t-n : goal.offset_bounds-t-n
 offset_bounds-t-n c =
-    omega (arith, c.loop-r.invariant.ready.room, c.loop-r.invariant.bound, c.loop-r.invariant.most, c.loop-r.invariant.same, c.loop-r-test.true, c.well_formed)
+    omega (
+      arith,
+      c.loop-r.invariant.ready.room,
+      c.loop-r.invariant.bound,
+      c.loop-r.invariant.most,
+      c.loop-r.invariant.same,
+      c.loop-r-test.true,
+      c.well_formed,
+    )
 
 pub bounds-t-n : goal.bounds-t-n
 bounds-t-n c =
-    omega (arith, c.loop-r.invariant.ready.room, c.loop-r.invariant.bound, c.loop-r.invariant.most, c.loop-r.invariant.same, c.loop-r-test.true, c.well_formed)
+    omega (
+      arith,
+      c.loop-r.invariant.ready.room,
+      c.loop-r.invariant.bound,
+      c.loop-r.invariant.most,
+      c.loop-r.invariant.same,
+      c.loop-r-test.true,
+      c.well_formed,
+    )
 
 pub overflow_mul-n : goal.overflow_mul-n
 overflow_mul-n c =
-    omega (arith, c.loop-r.invariant.ready.room, c.loop-r.invariant.bound, c.loop-r.invariant.most, c.loop-r.invariant.same, c.loop-r-test.true, c.well_formed)
+    omega (
+      arith,
+      c.loop-r.invariant.ready.room,
+      c.loop-r.invariant.bound,
+      c.loop-r.invariant.most,
+      c.loop-r.invariant.same,
+      c.loop-r-test.true,
+      c.well_formed,
+    )
 
 pub push-top-requires : goal.push-top-requires
 push-top-requires c =
-    omega (arith, c.loop-r.invariant.ready.room, c.loop-r.invariant.bound, c.loop-r.invariant.most, c.loop-r.invariant.same, c.loop-r-test.true, c.well_formed)
+    omega (
+      arith,
+      c.loop-r.invariant.ready.room,
+      c.loop-r.invariant.bound,
+      c.loop-r.invariant.most,
+      c.loop-r.invariant.same,
+      c.loop-r-test.true,
+      c.well_formed,
+    )
 
 pub loop-r-preserved : goal.loop-r-preserved
 loop-r-preserved c = rooting_turns _ _ _ _ _ _ c.loop-r.invariant _ _ _

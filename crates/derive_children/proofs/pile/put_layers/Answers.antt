@@ -15,7 +15,10 @@ pub shape_of-out-then-k-parents : goal.shape_of-out-then-k-parents
 shape_of-out-then-k-parents c = c.loop-top.invariant.out_same
 
 pub returns-then-k-parents : goal.returns-then-k-parents
-returns-then-k-parents c = record { answer = running_full _ _ _ _ _ _ _ _ _ _ c.loop-top.invariant c.requires.3 c.if-k-parents.true }
+returns-then-k-parents c =
+    record {
+      answer = running_full _ _ _ _ _ _ _ _ _ _ c.loop-top.invariant c.requires.3 c.if-k-parents.true;
+    }
 
 pub layer-top-requires : goal.layer-top-requires
 layer-top-requires c =
@@ -34,7 +37,9 @@ pub loop-top-smaller : goal.loop-top-smaller
 loop-top-smaller c = omega (arith, c.if-k-parents.false)
 
 pub loop-top-preserved : goal.loop-top-preserved
-loop-top-preserved c = running_turns _ _ _ _ _ _ _ _ _ _ c.loop-top.invariant c.requires.3 c.loop-top-test.true c.if-k-parents.false _ _ _ c.layer-top.auto.t c.layer-top.auto.out c.layer-top.ensures.answer
+loop-top-preserved c =
+    running_turns _ _ _ _ _ _ _ _ _ _ c.loop-top.invariant c.requires.3 c.loop-top-test.true c.if-k-parents.false _ _ _
+    c.layer-top.auto.t c.layer-top.auto.out c.layer-top.ensures.answer
 
 pub shape_of-t : goal.shape_of-t
 shape_of-t c = c.loop-top.invariant.stack_same

@@ -74,5 +74,6 @@ pub returns : goal.returns
 returns c =
     record {
       answer =
-          took_one _ _ _ _ _ _ _ c.requires.0 c.requires.1 c.if-top-eq0.false _ _ c.push-left.auto.t _ c.push-left.ensures.answer c.put_pair-2.ensures.rows;
+          took_one _ _ _ _ _ _ _ c.requires.0 c.requires.1 c.if-top-eq0.false _ _ c.push-left.auto.t _
+          c.push-left.ensures.answer c.put_pair-2.ensures.rows;
     }

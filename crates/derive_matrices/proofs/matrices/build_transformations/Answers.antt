@@ -26,4 +26,9 @@ overflow_mul-n-2 c =
 pub returns : goal.returns
 returns c =
     let e = ap room_of (sym c.in_default.is) ∙ c.matrices_room-room.ensures.answer in
-    record { answer = e; rows = rows-done c.args.bones.now c.args.n _ _ _ _ e (matrix-room _ _ _ _ e) c.put_matrices.ensures.rows c.clear32_from.ensures.rows c.clear32_from-2.ensures.rows }
+    record {
+      answer = e;
+      rows =
+          rows-done c.args.bones.now c.args.n _ _ _ _ e (matrix-room _ _ _ _ e) c.put_matrices.ensures.rows
+          c.clear32_from.ensures.rows c.clear32_from-2.ensures.rows;
+    }

@@ -7,6 +7,7 @@ returns c =
     record {
       answer =
           local_made _ _ _ _ _ _ _ _ c.requires c.from_quat_pos-m.ensures.answer
-          c.scale_vector-s.ensures.answer c.scale_at-scale.ensures.answer c.kept_at-kept.ensures.answer c.with_scale_vector.ensures.answer
+          c.scale_vector-s.ensures.answer c.scale_at-scale.ensures.answer c.kept_at-kept.ensures.answer
+          c.with_scale_vector.ensures.answer
           c.words-w.ensures.answer;
     }

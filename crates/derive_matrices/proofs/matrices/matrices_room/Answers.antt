@@ -10,7 +10,10 @@ pub returns-then-bones-n : goal.returns-then-bones-n
 returns-then-bones-n c = record { answer = no_room _ _ _ c.if-n-gt-MOST.false (lacks_bones _ _ _ _ c.if-bones-n.true) }
 
 pub returns-then-inverse-n : goal.returns-then-inverse-n
-returns-then-inverse-n c = record { answer = no_room _ _ _ c.if-n-gt-MOST.false (lacks_inverse _ _ _ _ c.if-bones-n.false c.if-inverse-n.true) }
+returns-then-inverse-n c =
+    record {
+      answer = no_room _ _ _ c.if-n-gt-MOST.false (lacks_inverse _ _ _ _ c.if-bones-n.false c.if-inverse-n.true);
+    }
 
 pub returns-then-local-n : goal.returns-then-local-n
 returns-then-local-n c =

@@ -30,8 +30,17 @@ overflow_add-p-6 c =
     omega (arith, c.requires.1, c.ranges.n)
 
 pub put_inverse-requires-4 : goal.put_inverse-requires-4
-put_inverse-requires-4 c =
-    (c.requires.0, omega (arith, c.requires.1, c.requires.2, c.put_inverse-3.auto.inverse, c.put_inverse-2.auto.inverse, c.put_inverse.auto.inverse))
+put_inverse-requires-4 c = (
+  c.requires.0,
+  omega (
+    arith,
+    c.requires.1,
+    c.requires.2,
+    c.put_inverse-3.auto.inverse,
+    c.put_inverse-2.auto.inverse,
+    c.put_inverse.auto.inverse,
+  ),
+)
 
 pub returns : goal.returns
 returns c =
@@ -39,9 +48,12 @@ returns c =
       rows =
           let l = length-bones_of _ _ in
           continues_four _ (length-inverse_of _) (omega (arith, c.requires.1, c.requires.2))
-          (inverse-walked _ _ _ _ _ _ l c.joint_in-a.ensures.answer c.side_by_side-f.ensures.answer.first) c.put_inverse.ensures.rows
+          (inverse-walked _ _ _ _ _ _ l c.joint_in-a.ensures.answer c.side_by_side-f.ensures.answer.first)
+          c.put_inverse.ensures.rows
           (inverse-walked _ _ _ _ _ _ l c.joint_in-b.ensures.answer c.side_by_side-f.ensures.answer.second)
           c.put_inverse-2.ensures.rows
-          (inverse-walked _ _ _ _ _ _ l c.joint_in-c.ensures.answer c.side_by_side-f.ensures.answer.third) c.put_inverse-3.ensures.rows
-          (inverse-walked _ _ _ _ _ _ l c.joint_in-d.ensures.answer c.side_by_side-f.ensures.answer.fourth) c.put_inverse-4.ensures.rows;
+          (inverse-walked _ _ _ _ _ _ l c.joint_in-c.ensures.answer c.side_by_side-f.ensures.answer.third)
+          c.put_inverse-3.ensures.rows
+          (inverse-walked _ _ _ _ _ _ l c.joint_in-d.ensures.answer c.side_by_side-f.ensures.answer.fourth)
+          c.put_inverse-4.ensures.rows;
     }

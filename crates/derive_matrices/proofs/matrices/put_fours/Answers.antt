@@ -11,8 +11,12 @@ pub overflow_sub-n : goal.overflow_sub-n
 overflow_sub-n c = omega arith
 
 pub put_four-requires : goal.put_four-requires
-put_four-requires c =
-    (c.requires.0, omega (arith, c.loop-p-test.true, c.loop-p.invariant.0), omega (arith, c.loop-p.invariant.1.same, c.requires.1))
+put_four-requires c = (
+  c.requires.0,
+  omega (arith, c.loop-p-test.true, c.loop-p.invariant.0),
+  omega
+      (arith, c.loop-p.invariant.1.same, c.requires.1),
+)
 
 pub overflow_add-p : goal.overflow_add-p
 overflow_add-p c = omega (

@@ -9,8 +9,12 @@ put_fours-p-requires c =
     (rw c.if-plain.true at c.requires.0, c.requires.1)
 
 pub put_rest-requires : goal.put_rest-requires
-put_rest-requires c =
-    (rw c.if-plain.true at c.requires.0, c.put_fours-p.ensures.number, omega (arith, c.put_fours-p.ensures.rows.same, c.requires.1))
+put_rest-requires c = (
+  rw c.if-plain.true at c.requires.0,
+  c.put_fours-p.ensures.number,
+  omega
+      (arith, c.put_fours-p.ensures.rows.same, c.requires.1),
+)
 
 pub returns-then-plain : goal.returns-then-plain
 unfolding inverses

@@ -24,8 +24,11 @@ pub loop-p-smaller : goal.loop-p-smaller
 loop-p-smaller c = omega arith
 
 pub loop-p-preserved : goal.loop-p-preserved
-loop-p-preserved c =
-    (omega arith, below_more _ _ c.loop-p.invariant.1 (c.plain_row.ensures.answer (not-false _ (ap not c.if-not-plain_row.false))))
+loop-p-preserved c = (
+  omega arith,
+  below_more _ _ c.loop-p.invariant.1
+      (c.plain_row.ensures.answer (not-false _ (ap not c.if-not-plain_row.false))),
+)
 
 pub returns : goal.returns
 returns c =

@@ -91,6 +91,7 @@ pub returns : goal.returns
 returns c =
     record {
       answer =
-          four_out _ _ _ _ _ _ _ _ _ c.lanes_of-poses.ensures.answer c.loop-steps.invariant c.pose_in.ensures.answer c.pose_in-2.ensures.answer
+          four_out _ _ _ _ _ _ _ _ _ c.lanes_of-poses.ensures.answer c.loop-steps.invariant c.pose_in.ensures.answer
+          c.pose_in-2.ensures.answer
           c.pose_in-3.ensures.answer c.pose_in-4.ensures.answer;
     }

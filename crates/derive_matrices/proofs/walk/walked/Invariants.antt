@@ -8,7 +8,8 @@ use Rattle.derive_matrices.proofs.walk.walked.Given as goal
 
 abbrev pub invariant-loop-p : goal.invariant-loop-p
 invariant-loop-p l = walk (bones_of l.n l.bones) (l.n - l.steps) l.p (record { position = l.position; rotation = l.rotation })
-    ≡ walk (bones_of l.n l.bones) (l.n - l.initial.steps) l.initial.p (record { position = l.initial.position; rotation = l.initial.rotation })
+    ≡ walk (bones_of l.n l.bones) (l.n - l.initial.steps) l.initial.p
+    (record { position = l.initial.position; rotation = l.initial.rotation })
 
 abbrev pub decreases-loop-p : goal.decreases-loop-p
 decreases-loop-p l = l.n - l.steps

@@ -12,7 +12,8 @@ pub returns-then-not-run_stands : goal.returns-then-not-run_stands
 returns-then-not-run_stands c = let all =
     first_off (stands c.args.n c.args.s.now c.args.from) (stands c.args.n c.args.t.now c.args.to)
     (sets c.args.t.now c.args.to (take c.args.n (drop c.args.from c.args.s.now))) c.args.t.now
-    (run_of_one c.args.n (length c.args.s.now) c.args.from c.run_stands.ensures.answer) (ap not c.if-not-run_stands.true) in record { answer = all.0; table = all.1 }
+    (run_of_one c.args.n (length c.args.s.now) c.args.from c.run_stands.ensures.answer) (ap not c.if-not-run_stands.true) in
+    record { answer = all.0; table = all.1 }
 
 pub returns-then-not-run_stands-2 : goal.returns-then-not-run_stands-2
 returns-then-not-run_stands-2 c = let all =
@@ -24,9 +25,11 @@ returns-then-not-run_stands-2 c = let all =
 
 pub copy_run-requires : goal.copy_run-requires
 copy_run-requires c = (
-  test_on (c.args.from + c.args.n) (length c.args.s.now) (run_of_one c.args.n (length c.args.s.now) c.args.from c.run_stands.ensures.answer)
+  test_on (c.args.from + c.args.n) (length c.args.s.now)
+      (run_of_one c.args.n (length c.args.s.now) c.args.from c.run_stands.ensures.answer)
       (ap not c.if-not-run_stands.false),
-  test_on (c.args.to + c.args.n) (length c.args.t.now) (run_of_one c.args.n (length c.args.t.now) c.args.to c.run_stands-2.ensures.answer)
+  test_on (c.args.to + c.args.n) (length c.args.t.now)
+      (run_of_one c.args.n (length c.args.t.now) c.args.to c.run_stands-2.ensures.answer)
       (ap not c.if-not-run_stands-2.false),
 )
 
@@ -36,4 +39,5 @@ returns c = let all =
     (sets c.args.t.now c.args.to (take c.args.n (drop c.args.from c.args.s.now))) c.args.t.now
     (run_of_one c.args.n (length c.args.s.now) c.args.from c.run_stands.ensures.answer)
     (run_of_one c.args.n (length c.args.t.now) c.args.to c.run_stands-2.ensures.answer)
-    (ap not c.if-not-run_stands.false) (ap not c.if-not-run_stands-2.false) c.copy_run.ensures in record { answer = all.0; table = all.1 }
+    (ap not c.if-not-run_stands.false) (ap not c.if-not-run_stands-2.false) c.copy_run.ensures in record
+    { answer = all.0; table = all.1 }

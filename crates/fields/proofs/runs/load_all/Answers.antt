@@ -9,7 +9,8 @@ loop-i-init c =
 
 pub loop-i-preserved : goal.loop-i-preserved
 loop-i-preserved c =
-    put-more c.loop-i.invariant c.loop-i-test.true (word-loaded c.args.s.now c.args.n _ c.requires.0 c.loop-i-test.true c.u32_at.ensures.answer)
+    put-more c.loop-i.invariant c.loop-i-test.true
+    (word-loaded c.args.s.now c.args.n _ c.requires.0 c.loop-i-test.true c.u32_at.ensures.answer)
 
 pub returns : goal.returns
 returns c = put_all c.loop-i.invariant c.loop-i-test.false

@@ -25,7 +25,8 @@ returns-then-not-run_stands-2 c = let all =
 pub load_run-requires : goal.load_run-requires
 load_run-requires c = (
   test_on (c.args.from + 4 * c.args.n) (length c.args.s.now) (sym c.run_stands.ensures.answer) (ap not c.if-not-run_stands.false),
-  test_on (c.args.to + c.args.n) (length c.args.t.now) (run_of_one c.args.n (length c.args.t.now) c.args.to c.run_stands-2.ensures.answer)
+  test_on (c.args.to + c.args.n) (length c.args.t.now)
+      (run_of_one c.args.n (length c.args.t.now) c.args.to c.run_stands-2.ensures.answer)
       (ap not c.if-not-run_stands-2.false),
 )
 
@@ -34,4 +35,5 @@ returns c = let all =
     both_on (stands (4 * c.args.n) c.args.s.now c.args.from) (stands c.args.n c.args.t.now c.args.to)
     (sets c.args.t.now c.args.to (words 4 c.args.n (drop c.args.from c.args.s.now))) c.args.t.now
     (sym c.run_stands.ensures.answer) (run_of_one c.args.n (length c.args.t.now) c.args.to c.run_stands-2.ensures.answer)
-    (ap not c.if-not-run_stands.false) (ap not c.if-not-run_stands-2.false) c.load_run.ensures in record { answer = all.0; table = all.1 }
+    (ap not c.if-not-run_stands.false) (ap not c.if-not-run_stands-2.false) c.load_run.ensures in record
+    { answer = all.0; table = all.1 }

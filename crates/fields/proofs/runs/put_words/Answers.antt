@@ -11,14 +11,18 @@ use Rattle.fields.proofs.runs.put_words.Goals as goal
 
 pub returns-then-not-run_stands : goal.returns-then-not-run_stands
 returns-then-not-run_stands c = let all =
-    one_off (stands (4 * length c.args.w.now) c.args.d.now c.args.at) (sets c.args.d.now c.args.at (word_bytes 4 c.args.w.now)) c.args.d.now
+    one_off (stands (4 * length c.args.w.now) c.args.d.now c.args.at) (sets c.args.d.now c.args.at (word_bytes 4 c.args.w.now))
+    c.args.d.now
     (sym c.run_stands.ensures.answer) (ap not c.if-not-run_stands.true) in record { answer = all.0; bytes = all.1 }
 
 pub put_run-requires : goal.put_run-requires
 put_run-requires c =
-    test_on (c.args.at + 4 * length c.args.w.now) (length c.args.d.now) (sym c.run_stands.ensures.answer) (ap not c.if-not-run_stands.false)
+    test_on (c.args.at + 4 * length c.args.w.now) (length c.args.d.now) (sym c.run_stands.ensures.answer)
+    (ap not c.if-not-run_stands.false)
 
 pub returns : goal.returns
 returns c = let all =
-    one_on (stands (4 * length c.args.w.now) c.args.d.now c.args.at) (sets c.args.d.now c.args.at (word_bytes 4 c.args.w.now)) c.args.d.now
-    (sym c.run_stands.ensures.answer) (ap not c.if-not-run_stands.false) c.put_run.ensures in record { answer = all.0; bytes = all.1 }
+    one_on (stands (4 * length c.args.w.now) c.args.d.now c.args.at) (sets c.args.d.now c.args.at (word_bytes 4 c.args.w.now))
+    c.args.d.now
+    (sym c.run_stands.ensures.answer) (ap not c.if-not-run_stands.false) c.put_run.ensures in record
+    { answer = all.0; bytes = all.1 }

@@ -17,5 +17,6 @@ pub returns-else-at-len : goal.returns-else-at-len
 returns-else-at-len c =
     record {
       answer =
-          lt-leb c.args.at c.args.len c.if-at-len.false ∙ sym (lt-leb (c.args.at + c.args.size * c.args.n) c.args.len (omega arith));
+          lt-leb c.args.at c.args.len c.if-at-len.false ∙ sym
+          (lt-leb (c.args.at + c.args.size * c.args.n) c.args.len (omega arith));
     }

@@ -5,7 +5,8 @@ use Rattle.joints.proofs.limits.write_translation.Goals as goal
 
 pub returns-then-out-lt-TRANSLATION_LIMIT_SIZE : goal.returns-then-out-lt-TRANSLATION_LIMIT_SIZE
 returns-then-out-lt-TRANSLATION_LIMIT_SIZE c = let all =
-    short-translation c.args.row.now c.args.out.now c.if-out-lt-TRANSLATION_LIMIT_SIZE.true in record { answer = all.0; buffer = all.1 }
+    short-translation c.args.row.now c.args.out.now c.if-out-lt-TRANSLATION_LIMIT_SIZE.true in record
+    { answer = all.0; buffer = all.1 }
 
 pub returns : goal.returns
 returns c = let all =

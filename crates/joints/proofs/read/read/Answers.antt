@@ -20,7 +20,8 @@ pub returns-in-At : goal.returns-in-At
 returns-in-At c = let all =
     promised c.args.rotation.now c.args.translation.now
     (reads-lists _ c.args.root c.args.rotation.now c.args.translation.now _ _ c.if-root-eq0.false c.find_record.ensures
-    c.in-At.is c.clear32.auto.t c.clear32-2.auto.t c.read_lists.ensures) in record { answer = all.0; rotation = all.1.0; translation = all.1.1 }
+    c.in-At.is c.clear32.auto.t c.clear32-2.auto.t c.read_lists.ensures) in record
+    { answer = all.0; rotation = all.1.0; translation = all.1.1 }
 
 pub returns-in-Refused : goal.returns-in-Refused
 returns-in-Refused c = let all =

@@ -18,7 +18,8 @@ returns-then-t-width_of c =
 
 pub load_rows-requires : goal.load_rows-requires
 load_rows-requires c =
-    let r = rows-room (length c.args.t.now) (width_of c.args.k) c.args.n (width_some c.args.k) (rw c.width_of.ensures at c.if-t-width_of.false) in
+    let r = rows-room (length c.args.t.now) (width_of c.args.k) c.args.n (width_some c.args.k)
+    (rw c.width_of.ensures at c.if-t-width_of.false) in
     record { room = (c.requires.bytes, r); zero = c.requires.zero }
 
 pub returns : goal.returns

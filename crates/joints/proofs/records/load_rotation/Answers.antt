@@ -24,10 +24,12 @@ bounds-t-to-2 c =
 
 pub shape_of-t : goal.shape_of-t
 shape_of-t c =
-    second-kept 20 0 19 c.args.s.now c.args.t.now c.args.to (c.u32_at-id.result % 65536) c.load_bounds.ensures (c.u32_at-id.result / 65536)
+    second-kept 20 0 19 c.args.s.now c.args.t.now c.args.to (c.u32_at-id.result % 65536) c.load_bounds.ensures
+    (c.u32_at-id.result / 65536)
     c.rotation_others.ensures
 
 pub returns : goal.returns
 returns c =
-    rotation_row_lem c.args.s.now c.args.t.now c.args.to c.requires.0 c.u32_at-id.ensures.answer (search rules) c.load_bounds.ensures
+    rotation_row_lem c.args.s.now c.args.t.now c.args.to c.requires.0 c.u32_at-id.ensures.answer (search rules)
+    c.load_bounds.ensures
     c.rotation_others.ensures

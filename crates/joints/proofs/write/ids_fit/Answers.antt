@@ -13,7 +13,8 @@ pub bounds-rotation-at : goal.bounds-rotation-at
 bounds-rotation-at c = omega (arith, c.loop-i.invariant.place, c.loop-i-test.true, c.requires)
 
 pub returns-then-rotation-at-gt-GREATEST_ROTATION_ID : goal.returns-then-rotation-at-gt-GREATEST_ROTATION_ID
-returns-then-rotation-at-gt-GREATEST_ROTATION_ID c = ids_wide c.loop-i.invariant c.loop-i-test.true c.if-rotation-at-gt-GREATEST_ROTATION_ID.true
+returns-then-rotation-at-gt-GREATEST_ROTATION_ID c =
+    ids_wide c.loop-i.invariant c.loop-i-test.true c.if-rotation-at-gt-GREATEST_ROTATION_ID.true
 
 pub overflow_add-at : goal.overflow_add-at
 overflow_add-at c =

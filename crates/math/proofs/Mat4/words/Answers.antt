@@ -17,12 +17,14 @@ use Rattle.math.proofs.Mat4.words.Goals as goal
 more : (l : List Float) (out : List ℕ) (i v : ℕ) → i < length out → v ≡ word_of (get_or l i nan) → Written l out i
     → Written l (set out i v) (i + 1)
 more l out i v h e p =
-    below_more _ i (λ k q. get_or-set_other out i k v (word_of nan) (omega arith) ∙ p k q) (get_or-set_same out i v (word_of nan) h ∙ e)
+    below_more _ i (λ k q. get_or-set_other out i k v (word_of nan) (omega arith) ∙ p k q)
+    (get_or-set_same out i v (word_of nan) h ∙ e)
 
 -- all are
 all : (l : List Float) (out : List ℕ) → length out ≡ length l → Written l out (length out) → out ≡ map word_of l
 all l out h p =
-    ext_get_or (word_of nan) out (map word_of l) (h ∙ sym (length-map l word_of)) (λ k q. p k q ∙ sym (get_or-map word_of l k nan))
+    ext_get_or (word_of nan) out (map word_of l) (h ∙ sym (length-map l word_of))
+    (λ k q. p k q ∙ sym (get_or-map word_of l k nan))
 
 pub loop-i-init : goal.loop-i-init
 loop-i-init c = (omega arith, refl, below_none _)
@@ -46,8 +48,12 @@ pub loop-i-preserved : goal.loop-i-preserved
 loop-i-preserved c =
     let a = c in
     let m = a.args.self in
-    let l : a.loop-i.i < length a.loop-i.out = omega arith in
-    (omega arith, simp length-set (omega arith), more m.0 a.loop-i.out a.loop-i.i _ l c.word_of.ensures.answer a.loop-i.invariant.2)
+    let l : a.loop-i.i < length a.loop-i.out = omega arith in (
+      omega arith,
+      simp length-set (omega arith),
+      more m.0 a.loop-i.out a.loop-i.i _ l c.word_of.ensures.answer
+          a.loop-i.invariant.2,
+    )
 
 pub returns : goal.returns
 returns c =

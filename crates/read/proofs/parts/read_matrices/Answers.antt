@@ -21,5 +21,6 @@ pub returns-in-Done-matrices_in : goal.returns-in-Done-matrices_in
 returns-in-Done-matrices_in c =
     record {
       tables =
-          pair-done c.matrices_in-i.ensures _ _ c.in-Done.is c.matrices_in-i.auto.own c.matrices_in.ensures c.in-Done-matrices_in.is;
+          pair-done c.matrices_in-i.ensures _ _ c.in-Done.is c.matrices_in-i.auto.own c.matrices_in.ensures
+          c.in-Done-matrices_in.is;
     }

@@ -29,5 +29,6 @@ returns-in-Unread c =
 
 pub returns-in-Refused-l : goal.returns-in-Refused-l
 returns-in-Refused-l c =
-    step_other _ _ _ c.entry_at-f.ensures.answer c.in-At.is (c.put_at-s.ensures.table.at c.requires.1) c.in_default.is c.requires.0
+    step_other _ _ _ c.entry_at-f.ensures.answer c.in-At.is (c.put_at-s.ensures.table.at c.requires.1) c.in_default.is
+    c.requires.0
     c.link_to-l.ensures c.in-Refused-l.is

@@ -15,7 +15,8 @@ returns-then-runs_past c =
 
 pub overflow_add-result : goal.overflow_add-result
 overflow_add-result c =
-    let h : c.args.used + 16 * c.args.n ≤ 16 * (length c.args.own.now / 16) = past_false _ _ _ c.runs_past.ensures c.if-runs_past.false in
+    let h : c.args.used + 16 * c.args.n ≤ 16 * (length c.args.own.now / 16) = past_false _ _ _ c.runs_past.ensures
+    c.if-runs_past.false in
     omega (arith, h)
 
 pub returns : goal.returns

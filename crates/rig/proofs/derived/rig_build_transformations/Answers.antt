@@ -6,8 +6,16 @@ use Rattle.rig.proofs.derived.rig_build_transformations.Goals as goal
 
 pub returns-in-Done : goal.returns-in-Done
 returns-in-Done c =
-    record { answer = status-done (sym (ap transformed_of c.in-Done.is) ∙ c.build_transformations.ensures.answer); rows = c.build_transformations.ensures.rows }
+    record {
+      answer = status-done (sym (ap transformed_of c.in-Done.is) ∙ c.build_transformations.ensures.answer);
+      rows = c.build_transformations.ensures.rows;
+    }
 
 pub returns-in-Refused : goal.returns-in-Refused
 returns-in-Refused c =
-    record { answer = c.code.ensures.answer ∙ status-refused (sym (ap transformed_of c.in-Refused.is) ∙ c.build_transformations.ensures.answer); rows = c.build_transformations.ensures.rows }
+    record {
+      answer =
+          c.code.ensures.answer ∙ status-refused
+          (sym (ap transformed_of c.in-Refused.is) ∙ c.build_transformations.ensures.answer);
+      rows = c.build_transformations.ensures.rows;
+    }

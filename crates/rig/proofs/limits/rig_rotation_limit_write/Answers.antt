@@ -7,4 +7,7 @@ use Rattle.rig.proofs.limits.rig_rotation_limit_write.Goals as goal
 pub returns : goal.returns
 returns c =
     let g = rotation_written (length c.args.out.now) (rotation_row c.args.row.now) in
-    record { answer = record_told g c.record_status.ensures c.write_rotation.ensures.answer; buffer = c.write_rotation.ensures.buffer }
+    record {
+      answer = record_told g c.record_status.ensures c.write_rotation.ensures.answer;
+      buffer = c.write_rotation.ensures.buffer;
+    }

@@ -7,4 +7,7 @@ use Rattle.rig.proofs.limits.rig_translation_limit_write.Goals as goal
 pub returns : goal.returns
 returns c =
     let g = translation_written (length c.args.out.now) (translation_row c.args.row.now) in
-    record { answer = record_told g c.record_status.ensures c.write_translation.ensures.answer; buffer = c.write_translation.ensures.buffer }
+    record {
+      answer = record_told g c.record_status.ensures c.write_translation.ensures.answer;
+      buffer = c.write_translation.ensures.buffer;
+    }

@@ -39,5 +39,6 @@ pub returns : goal.returns
 returns c =
     record {
       told =
-          search-told _ _ _ _ c.search-r.ensures.answer c.search-r.ensures.tables c.searched_position.ensures c.searched_status.ensures;
+          search-told _ _ _ _ c.search-r.ensures.answer c.search-r.ensures.tables c.searched_position.ensures
+          c.searched_status.ensures;
     }

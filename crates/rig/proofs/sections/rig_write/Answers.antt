@@ -37,4 +37,7 @@ shape_of-out c = c.write-r.auto.out
 
 pub returns : goal.returns
 returns c =
-    record { told = write-told c.write-r.ensures.written c.written_count.ensures c.written_status.ensures; tables = c.write-r.ensures.tables }
+    record {
+      told = write-told c.write-r.ensures.written c.written_count.ensures c.written_status.ensures;
+      tables = c.write-r.ensures.tables;
+    }

@@ -31,4 +31,9 @@ shape_of-line c = c.put_word.auto.line ∙ c.put_digits-at.auto.line ∙
 
 pub returns : goal.returns
 returns c =
-    record { line = line-laid c.args.line.now c.put_digits-at.new.line c.put_word.new.line c.args.word.now c.put_digits-at.result c.put_word.result c.args.n (omega (arith, c.requires)) c.put_digits-at.ensures.digits c.put_word.ensures.word; place = omega (arith, c.requires, c.put_word.ensures.place, c.put_digits-at.ensures.place.0) }
+    record {
+      line =
+          line-laid c.args.line.now c.put_digits-at.new.line c.put_word.new.line c.args.word.now c.put_digits-at.result
+          c.put_word.result c.args.n (omega (arith, c.requires)) c.put_digits-at.ensures.digits c.put_word.ensures.word;
+      place = omega (arith, c.requires, c.put_word.ensures.place, c.put_digits-at.ensures.place.0);
+    }

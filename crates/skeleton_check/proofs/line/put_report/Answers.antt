@@ -14,4 +14,7 @@ returns-in-Accepted c =
 
 pub returns-in-Refused : goal.returns-in-Refused
 returns-in-Refused c =
-    record { line = line_refused c.in-Refused.is c.code.ensures.answer c.put_line-in-Refused.ensures.line; place = c.put_line-in-Refused.ensures.place }
+    record {
+      line = line_refused c.in-Refused.is c.code.ensures.answer c.put_line-in-Refused.ensures.line;
+      place = c.put_line-in-Refused.ensures.place;
+    }

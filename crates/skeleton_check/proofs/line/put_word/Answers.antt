@@ -11,4 +11,7 @@ loop-left-preserved c = word_on c.loop-left.invariant c.loop-left-test.true
 
 pub returns : goal.returns
 returns c =
-    record { word = word-all c.loop-left.invariant c.loop-left-test.false; place = omega (arith, c.loop-left.invariant.within, c.loop-left.invariant.few) }
+    record {
+      word = word-all c.loop-left.invariant c.loop-left-test.false;
+      place = omega (arith, c.loop-left.invariant.within, c.loop-left.invariant.few);
+    }

@@ -9,5 +9,6 @@ returns c =
     record {
       bytes =
           let h : c.args.name < 2 ^ 32 = omega arith in
-          stored-bone c.args.d.now c.args.at c.args.row.now c.args.name h c.bone_record-w.ensures.answer c.put_words.ensures.bytes;
+          stored-bone c.args.d.now c.args.at c.args.row.now c.args.name h c.bone_record-w.ensures.answer
+          c.put_words.ensures.bytes;
     }

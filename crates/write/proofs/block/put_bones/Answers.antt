@@ -28,7 +28,8 @@ overflow_add-name c = record {
 
 pub loop-p-preserved : goal.loop-p-preserved
 loop-p-preserved c = boning_more c.requires
-    c.loop-p.invariant c.loop-p-test.true c.row_in-row.ensures.part c.name_bytes-size.ensures.answer c.pointer.ensures.answer c.put_bone.ensures.bytes
+    c.loop-p.invariant c.loop-p-test.true c.row_in-row.ensures.part c.name_bytes-size.ensures.answer c.pointer.ensures.answer
+    c.put_bone.ensures.bytes
 
 pub returns : goal.returns
 returns c = record { bytes = boning_all c.loop-p.invariant c.loop-p-test.false }

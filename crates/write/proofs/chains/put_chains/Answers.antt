@@ -10,10 +10,13 @@ pub put_pointer-requires : goal.put_pointer-requires
 put_pointer-requires c = pointer-room _ _ _ _ _ c.requires c.loop-b.invariant c.loop-b-test.true
 
 pub put_chain-end-requires : goal.put_chain-end-requires
-put_chain-end-requires c = chain-room _ _ _ _ _ c.requires c.loop-b.invariant c.loop-b-test.true c.put_pointer.new.d c.put_pointer.auto.d
+put_chain-end-requires c =
+    chain-room _ _ _ _ _ c.requires c.loop-b.invariant c.loop-b-test.true c.put_pointer.new.d c.put_pointer.auto.d
 
 pub loop-b-preserved : goal.loop-b-preserved
-loop-b-preserved c = buckets-more _ _ _ _ _ c.requires c.loop-b.invariant c.loop-b-test.true c.put_pointer.ensures.bytes c.put_chain-end.ensures.end c.put_chain-end.ensures.bytes
+loop-b-preserved c =
+    buckets-more _ _ _ _ _ c.requires c.loop-b.invariant c.loop-b-test.true c.put_pointer.ensures.bytes
+    c.put_chain-end.ensures.end c.put_chain-end.ensures.bytes
 
 pub put_zeros-requires : goal.put_zeros-requires
 put_zeros-requires c = omega (
@@ -25,4 +28,8 @@ put_zeros-requires c = omega (
 )
 
 pub returns : goal.returns
-returns c = record { bytes = buckets-all _ _ _ _ _ c.requires c.loop-b.invariant c.loop-b-test.false c.fill.ensures.answer c.put_zeros.ensures.bytes }
+returns c =
+    record {
+      bytes =
+          buckets-all _ _ _ _ _ c.requires c.loop-b.invariant c.loop-b-test.false c.fill.ensures.answer c.put_zeros.ensures.bytes;
+    }

@@ -6,7 +6,12 @@ use Rattle.write.proofs.filling.put_names_part.Goals as goal
 
 pub put_names-requires : goal.put_names-requires
 put_names-requires c =
-    record { rows = c.requires.rows; few = c.requires.few; ends = omega (arith, c.requires.counts); room = omega (arith, c.requires.room) }
+    record {
+      rows = c.requires.rows;
+      few = c.requires.few;
+      ends = omega (arith, c.requires.counts);
+      room = omega (arith, c.requires.room);
+    }
 
 pub returns : goal.returns
 returns c =

@@ -57,5 +57,6 @@ returns-in-Refused c =
     record {
       answer =
           let lent = section c.args.sys.now c.args.gfx.now in
-          good-refused lent c.args.row.now c.name_at-place.ensures.answer c.if-place-eq0.false c.locate.ensures.answer c.in-Refused.is;
+          good-refused lent c.args.row.now c.name_at-place.ensures.answer c.if-place-eq0.false c.locate.ensures.answer
+          c.in-Refused.is;
     }

@@ -14,14 +14,22 @@ pub good_name-requires : goal.good_name-requires
 good_name-requires c = c.requires.1
 
 pub returns-then-not-good_name : goal.returns-then-not-good_name
-returns-then-not-good_name c = record { answer = measuring_bad c.loop-p.invariant c.loop-p-test.true c.row_in-row.ensures.part c.good_name.ensures.answer (not-true _ (ap not c.if-not-good_name.true)) }
+returns-then-not-good_name c =
+    record {
+      answer =
+          measuring_bad c.loop-p.invariant c.loop-p-test.true c.row_in-row.ensures.part c.good_name.ensures.answer
+          (not-true _ (ap not c.if-not-good_name.true));
+    }
 
 pub name_bytes-total-requires : goal.name_bytes-total-requires
-name_bytes-total-requires c = measuring_short c.loop-p.invariant c.loop-p-test.true c.row_in-row.ensures.part c.good_name.ensures.answer (not-false _ (ap not c.if-not-good_name.false)) c.requires.0.rows
+name_bytes-total-requires c =
+    measuring_short c.loop-p.invariant c.loop-p-test.true c.row_in-row.ensures.part c.good_name.ensures.answer
+    (not-false _ (ap not c.if-not-good_name.false)) c.requires.0.rows
 
 pub overflow_add-total : goal.overflow_add-total
 overflow_add-total c =
-    let m = measuring_more c.loop-p.invariant c.loop-p-test.true c.row_in-row.ensures.part c.good_name.ensures.answer (not-false _ (ap not c.if-not-good_name.false)) c.name_bytes-total.ensures.answer in
+    let m = measuring_more c.loop-p.invariant c.loop-p-test.true c.row_in-row.ensures.part c.good_name.ensures.answer
+    (not-false _ (ap not c.if-not-good_name.false)) c.name_bytes-total.ensures.answer in
     record {
       fits = omega (
         arith,
@@ -31,7 +39,9 @@ overflow_add-total c =
     }
 
 pub loop-p-preserved : goal.loop-p-preserved
-loop-p-preserved c = measuring_more c.loop-p.invariant c.loop-p-test.true c.row_in-row.ensures.part c.good_name.ensures.answer (not-false _ (ap not c.if-not-good_name.false)) c.name_bytes-total.ensures.answer
+loop-p-preserved c =
+    measuring_more c.loop-p.invariant c.loop-p-test.true c.row_in-row.ensures.part c.good_name.ensures.answer
+    (not-false _ (ap not c.if-not-good_name.false)) c.name_bytes-total.ensures.answer
 
 pub returns : goal.returns
 returns c = record { answer = measuring_all c.loop-p.invariant c.loop-p-test.false }

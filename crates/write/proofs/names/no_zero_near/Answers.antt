@@ -17,7 +17,8 @@ bounds-mask-start c = omega (
 pub loop-i-preserved : goal.loop-i-preserved
 loop-i-preserved c = (
   c.loop-i.invariant.0,
-  rw c.loop-i.invariant.0 (near-more c.args.s.now c.args.at c.args.k c.requires.0 c.requires.1 c.requires.2 c.loop-i.invariant.1 c.loop-i-test.true),
+  rw c.loop-i.invariant.0
+      (near-more c.args.s.now c.args.at c.args.k c.requires.0 c.requires.1 c.requires.2 c.loop-i.invariant.1 c.loop-i-test.true),
 )
 
 pub returns : goal.returns

@@ -5,4 +5,9 @@ use Rattle.write.proofs.names.put_ended.Goals as goal
 
 pub returns : goal.returns
 returns c =
-    record { end = refl; bytes = ended_stored c.args.limit c.args.d.now c.args.at c.args.s.now c.args.from c.args.k c.requires.0 c.requires.1 c.put_at_least.ensures.bytes }
+    record {
+      end = refl;
+      bytes =
+          ended_stored c.args.limit c.args.d.now c.args.at c.args.s.now c.args.from c.args.k c.requires.0 c.requires.1
+          c.put_at_least.ensures.bytes;
+    }

@@ -9,7 +9,9 @@ pub put_name-to-requires : goal.put_name-to-requires
 put_name-to-requires c = naming-room c.loop-p.invariant c.loop-p-test.true c.requires c.row_in-row.ensures.part
 
 pub loop-p-preserved : goal.loop-p-preserved
-loop-p-preserved c = naming-more c.loop-p.invariant c.loop-p-test.true c.requires c.row_in-row.ensures.part c.put_name-to.ensures.end c.put_name-to.ensures.bytes
+loop-p-preserved c =
+    naming-more c.loop-p.invariant c.loop-p-test.true c.requires c.row_in-row.ensures.part c.put_name-to.ensures.end
+    c.put_name-to.ensures.bytes
 
 pub returns : goal.returns
 returns c = record { bytes = naming-all c.loop-p.invariant c.loop-p-test.false }

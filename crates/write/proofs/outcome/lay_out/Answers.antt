@@ -32,7 +32,8 @@ pub returns-then-size-out : goal.returns-then-size-out
 returns-then-size-out c =
     record {
       written =
-          let n = size_is c.requires c.entry_count.ensures.answer c.place-at.ensures.answer c.after-size.ensures.answer (meant_words4 c.args.free) in
+          let n = size_is c.requires c.entry_count.ensures.answer c.place-at.ensures.answer c.after-size.ensures.answer
+          (meant_words4 c.args.free) in
           writes_refused _
           (laid-short (section c.args.sys.now c.args.gfx.now) _ (bones_of c.args.s.bones c.args.bones.now) _ (omega (
             arith,
@@ -43,14 +44,18 @@ returns-then-size-out c =
     }
 
 pub fill_section-requires : goal.fill_section-requires
-fill_section-requires c = ready c.requires c.entry_count.ensures.answer c.place-at.ensures.answer c.after-size.ensures.answer c.if-s-gt-MOST.false c.if-size-out.false
+fill_section-requires c =
+    ready c.requires c.entry_count.ensures.answer c.place-at.ensures.answer c.after-size.ensures.answer c.if-s-gt-MOST.false
+    c.if-size-out.false
 
 pub returns : goal.returns
 returns c =
     record {
       written =
-          let n = size_is c.requires c.entry_count.ensures.answer c.place-at.ensures.answer c.after-size.ensures.answer (meant_words4 c.args.free) in
-          writes_done (layout (named (section c.args.sys.now c.args.gfx.now) (bones_of c.args.s.bones c.args.bones.now)) (meant_words4 c.args.free))
+          let n = size_is c.requires c.entry_count.ensures.answer c.place-at.ensures.answer c.after-size.ensures.answer
+          (meant_words4 c.args.free) in
+          writes_done (layout (named (section c.args.sys.now c.args.gfx.now) (bones_of c.args.s.bones c.args.bones.now))
+          (meant_words4 c.args.free))
           (laid_done (section c.args.sys.now c.args.gfx.now) _ (bones_of c.args.s.bones c.args.bones.now) _ (omega (
             arith,
             c.requires.children_is,

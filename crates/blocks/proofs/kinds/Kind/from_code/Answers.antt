@@ -46,6 +46,7 @@ returns-in_default c =
     record {
       answer =
           sym
-          (kind_from-rest c.args.code (omega arith) (omega arith) (omega arith) (omega arith) (omega arith) (omega arith) (omega arith)
+          (kind_from-rest c.args.code (omega arith) (omega arith) (omega arith) (omega arith) (omega arith) (omega arith)
+          (omega arith)
           (omega arith) (omega arith));
     }
