@@ -1,2 +1,3 @@
 pub mod Status
+pub mod Statuses
 pub mod Told

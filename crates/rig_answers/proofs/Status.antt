@@ -6,11 +6,10 @@ use mathlib.Core.Bool.{Bool, true, false, not}
 use mathlib.Core.Option.{Option, none, some}
 use mathlib.Core.List.{List}
 use lib.Dec.{T}
-use Rattle.format.specs.Result.{Res, refused, done, status}
+use Rattle.format.specs.Result.{Res, refused, done}
 use Rattle.format.specs.CallRefusals.{one_of, RefusesOnly}
-use Rattle.format.proofs.CallRefusals.{only-done, only-refused}
 use Rattle.rig_answers.specs.Answer.{read_status}
-use Rattle.rig_answers.specs.Status.{sure, Tells, Statuses}
+use Rattle.rig_answers.specs.Status.{Tells}
 
 both : (b : Bool) → T (not b) → T b → ⊥
 both true h k = h
@@ -52,18 +51,3 @@ module _ (ns : List ℕ) (no0 : T (not (one_of 0 ns))) (no100 : T (not (one_of 1
         );
         refusal = λ n. (λ e. let q : c ≡ n = cc in (q, h.only n e), λ p. let q = p.0 in cc);
       }
-
-sure-only : {A : Type 0} (ns : List ℕ) (w : Res A) → RefusesOnly ns w → RefusesOnly ns (sure w)
-sure-only ns (done a) h = only-done (some a)
-sure-only ns (refused c) h = only-refused c (h.only c refl)
-
-sure-status : {A : Type 0} (w : Res A) → read_status (sure w) ≡ status w
-sure-status (done a) = refl
-sure-status (refused n) = refl
-
-pub statuses : Statuses
-statuses =
-    record {
-      tells = λ {A} ns a b w h. tells ns a b w h;
-      tells_sure = λ {A} ns a b w h. subst (Tells ns (sure w)) (sure-status w) (tells ns a b (sure w) (sure-only ns w h));
-    }

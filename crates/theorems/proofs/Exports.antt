@@ -41,7 +41,7 @@ use Rattle.read_laws.specs.Bytes.{Bytes8, SectionBytes}
 use Rattle.rig_answers.specs.Answer.{read_status, given}
 use Rattle.rig_answers.specs.Status.{sure, Tells}
 use Rattle.rig_answers.specs.Told.{free_of, skeleton_fields, WriteTold, Told, CheckTold}
-use Rattle.rig_answers.proofs.Status as answers
+use Rattle.rig_answers.proofs.Statuses as answers
 use Rattle.theorems.specs.Typed.{Words32}
 use Rattle.theorems.specs.Exports.{ExportStatuses, RightTold, WrittenBackTold, Exports}
 use Rattle.theorems.proofs.Fitting.{front_bytes}
