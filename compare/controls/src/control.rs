@@ -12,7 +12,7 @@ pub fn sheet() -> Sheet {
     s.published("lays", "layout three no_free", "control_bytes");
     let back = read(&[]).ok().flatten().and_then(|r| r.bones);
     assert_eq!(back.as_deref(), Some(&trial::control_rig()[..]), "what is written reads back");
-    s.published("reads_back", "bones_back (control_with [])", "done (some three)");
+    s.published("reads_back", "bones_back (control_with [])", "done (Some three)");
     checks(&mut s, "accepted", &[]);
     readings(&mut s, "neither_half", &[(43, 64)]);
     readings(&mut s, "upper_bits", &[(332, 1)]);

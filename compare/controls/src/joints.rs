@@ -172,8 +172,8 @@ fn back(s: &mut Sheet, r: RotationLimit, t: TranslationLimit) {
     assert_eq!([first, second].map(rows::rotation), [rows::rotation(&r); 2], "the limits that were written");
     assert_eq!(rows::translation(only), rows::translation(&t), "the limit that was written");
     let counts = format!("kind = {}; rotation_count = {}; translation_count = {}", j.kind, j.rotation_count, j.translation_count);
-    let lists = "rotation = some (rotation1 ∷ rotation1 ∷ []); translation = some (translation1 ∷ []);";
-    let read = format!("done (some (record {{ {counts}; {lists} }}))");
+    let lists = "rotation = Some (rotation1 ∷ rotation1 ∷ []); translation = Some (translation1 ∷ []);";
+    let read = format!("done (Some (record {{ {counts}; {lists} }}))");
     s.published("limits_back", "read_joints joints21 2 1 base", &read);
     for (name, rows) in [("no_rotation_row", [1, 1]), ("no_translation_row", [2, 0])] {
         let holds = rotations.len() <= rows[0] && translations.len() <= rows[1];
@@ -181,17 +181,17 @@ fn back(s: &mut Sheet, r: RotationLimit, t: TranslationLimit) {
         s.joined(name, format!("read_joints joints21 {} {} base", rows[0], rows[1]), right);
     }
     assert_eq!(joints_read(&bytes, &[], 0), JointsAnswer::None);
-    s.published("joints_at_zero", "read_joints joints21 2 1 0", "done none");
+    s.published("joints_at_zero", "read_joints joints21 2 1 0", "done None");
 }
 
 fn read(bytes: &[u8]) -> String {
     match joints_read(bytes, &[], SYSTEM_BASE) {
-        JointsAnswer::None => "done none".into(),
+        JointsAnswer::None => "done None".into(),
         JointsAnswer::Refused(number) => format!("refused {number}"),
         JointsAnswer::Read(j) => {
             assert!(j.rotations.is_none() && j.translations.is_none(), "a record with no lists");
             let counts = format!("rotation_count = {}; translation_count = {}", j.rotation_count, j.translation_count);
-            format!("done (some (record {{ kind = {}; {counts}; rotation = none; translation = none }}))", j.kind)
+            format!("done (Some (record {{ kind = {}; {counts}; rotation = None; translation = None }}))", j.kind)
         }
     }
 }

@@ -16,7 +16,7 @@ pub fn sheet() -> Sheet {
     fields(&mut s);
     let shared = [(488, 0), (489, 2)];
     let bones = read(&shared).ok().flatten().and_then(|r| r.bones).expect("bones");
-    let listed = list(bones.iter().map(|b| b.name.as_ref().map_or("none".into(), |name| format!("some ({})", numbers(name)))));
+    let listed = list(bones.iter().map(|b| b.name.as_ref().map_or("None".into(), |name| format!("Some ({})", numbers(name)))));
     s.published("shared_name", format!("names_read (bones_back ({}))", with("control_with", &shared)), listed);
     readings(&mut s, "bone_at_entry", &[(32, 208), (33, 0)]);
     readings(&mut s, "later_replaces", &[(328, 16), (329, 1), (488, 16), (489, 1)]);
@@ -52,7 +52,7 @@ pub fn sheet() -> Sheet {
     );
     let nowhere = lent::read(&Section { root: 0, ..control(&[]) }, PROGRAM);
     assert!(matches!(nowhere, Ok(None)), "root 0");
-    s.published("root_zero", "read (control_with []) program_room 0", "done none");
+    s.published("root_zero", "read (control_with []) program_room 0", "done None");
     s
 }
 

@@ -63,7 +63,7 @@ fn bones(s: &mut Sheet) {
     let [rotation, translation, scale] = words;
     let first = format!("rotation = {rotation}; translation = {translation}; scale = {scale}");
     let links = format!("next_sibling = {}; parent = {}", b.next_sibling, b.parent);
-    let name = format!("name = some (place_at {} {})", number(place.address), number(place.size));
+    let name = format!("name = Some (place_at {} {})", number(place.address), number(place.size));
     let marks = format!("flags = {}; index = {}; tag = {}; kept = {}", b.flags, b.index, b.tag, applied("words4", &b.kept));
     s.define("row_bone", format!("record {{ {first}; {links}; {name}; {marks}; }}"));
     let laid = placed_bones(std::slice::from_ref(&b), &[place]);

@@ -58,7 +58,7 @@ pub fn truth(b: bool) -> String {
 pub fn answer(a: Answer) -> String {
     match a {
         Err(n) => format!("refused {n}"),
-        Ok(None) => "done none".into(),
-        Ok(Some(n)) => format!("done (some {n})"),
+        Ok(None) => "done None".into(),
+        Ok(Some(n)) => format!("done (Some {n})"),
     }
 }

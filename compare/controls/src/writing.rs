@@ -28,7 +28,7 @@ pub fn sheet() -> Sheet {
 
 fn refusals(s: &mut Sheet) {
     let lost = NameBytes::new(&[], &[]).at(0x7000_0000, 1).is_none();
-    let (unnamed, outside) = ("placed_bone none", "placed_bone (some (place_at 0x7000_0000 1))");
+    let (unnamed, outside) = ("placed_bone None", "placed_bone (Some (place_at 0x7000_0000 1))");
     let one = |bone: &str| format!("({bone} ∷ [])");
     let many = |n: usize, bone: &str| format!("(replicate {n} ({bone}))");
     let cases = [

@@ -2,7 +2,7 @@
 -- and only a new address takes a row. `enter` is the format's `put` of the pool alone. Assumes nothing.
 use mathlib.Core.Path.{◌≡◌, refl, sym, ap, ◌∙◌}
 use mathlib.Core.Bool.{Bool, true, false, cond}
-use mathlib.Core.Option.{Option, none, some}
+use Rattle.std.specs.Prelude.{Option, None, Some}
 use mathlib.Core.List.{List, [], ◌∷◌, ◌++◌}
 use Prim.Native.Nat.{ℕ, suc}
 use native.Mathlib.Omega.{arith}
@@ -17,15 +17,15 @@ use Rattle.blocks.specs.Pool.{enter, enter_over}
 
 same_by :
     (b : Bool) (p o : Pooled) (q : List Pooled) → eqb o.address p.address ≡ b →
-    (cond b (some o) (find p.address q) ≡ none → ⊥) →
-    ((find p.address q ≡ none → ⊥) → find p.address (replace p q) ≡ some p) →
-    find p.address (cond b (p ∷ q) (o ∷ replace p q)) ≡ some p
+    (cond b (Some o) (find p.address q) ≡ None → ⊥) →
+    ((find p.address q ≡ None → ⊥) → find p.address (replace p q) ≡ Some p) →
+    find p.address (cond b (p ∷ q) (o ∷ replace p q)) ≡ Some p
 unfolding find
 same_by true p o q e n h = simp (eq-eqb p.address p.address refl)
 same_by false p o q e n h = simp e (h n)
 
 pub find-replace-same :
-    (p : Pooled) (q : List Pooled) → (find p.address q ≡ none → ⊥) → find p.address (replace p q) ≡ some p
+    (p : Pooled) (q : List Pooled) → (find p.address q ≡ None → ⊥) → find p.address (replace p q) ≡ Some p
 unfolding find replace
 find-replace-same p [] n = absurd (n refl)
 find-replace-same p (o ∷ q) n = same_by (eqb o.address p.address) p o q refl n (find-replace-same p q)
@@ -55,14 +55,14 @@ length-replace p (o ∷ q) = by (eqb o.address p.address) (length-replace p q)
 
 -- ---- a row behind the others
 
-pub find-append-same : (p : Pooled) (q : List Pooled) → find p.address q ≡ none → find p.address (q ++ (p ∷ [])) ≡ some p
+pub find-append-same : (p : Pooled) (q : List Pooled) → find p.address q ≡ None → find p.address (q ++ (p ∷ [])) ≡ Some p
 unfolding find
 find-append-same p [] e = simp (eq-eqb p.address p.address refl)
 find-append-same p (o ∷ q) e = by (eqb o.address p.address) (find-append-same p q) e
   where
     by :
-        (b : Bool) → (find p.address q ≡ none → find p.address (q ++ (p ∷ [])) ≡ some p) →
-        cond b (some o) (find p.address q) ≡ none → cond b (some o) (find p.address (q ++ (p ∷ []))) ≡ some p
+        (b : Bool) → (find p.address q ≡ None → find p.address (q ++ (p ∷ [])) ≡ Some p) →
+        cond b (Some o) (find p.address q) ≡ None → cond b (Some o) (find p.address (q ++ (p ∷ []))) ≡ Some p
     by true h f = let z : ◌≡◌ {A = ℕ} 0 1 = cc in absurd (omega arith)
     by false h f = h f
 
@@ -76,21 +76,21 @@ find-append-other p a (o ∷ q) n = simp (find-append-other p a q n)
 -- what was entered is found, and every other address as before
 find_over :
     (n : ℕ) (p : Pooled) (q e : List Pooled) (o : Option Pooled) → find p.address q ≡ o → enter_over n p q o ≡ done e →
-    (find p.address e ≡ some p) × ((a : ℕ) → (p.address ≡ a → ⊥) → find a e ≡ find a q)
-find_over n p q e (some o) f g =
-    let stands : find p.address q ≡ none → ⊥ = λ m. let z : ◌≡◌ {A = ℕ} 0 1 = cc in omega arith in
+    (find p.address e ≡ Some p) × ((a : ℕ) → (p.address ≡ a → ⊥) → find a e ≡ find a q)
+find_over n p q e (Some o) f g =
+    let stands : find p.address q ≡ None → ⊥ = λ m. let z : ◌≡◌ {A = ℕ} 0 1 = cc in omega arith in
     let is : replace p q ≡ e = cc in
     rw (← is) (find-replace-same p q stands, λ a. find-replace-other p a q)
-find_over n p q e none f g = by (ltb (length q) n) g
+find_over n p q e None f g = by (ltb (length q) n) g
   where
     by :
         (b : Bool) → (need 1 b >>= λ u. done (q ++ (p ∷ []))) ≡ done e →
-        (find p.address e ≡ some p) × ((a : ℕ) → (p.address ≡ a → ⊥) → find a e ≡ find a q)
+        (find p.address e ≡ Some p) × ((a : ℕ) → (p.address ≡ a → ⊥) → find a e ≡ find a q)
     by true d = let is : q ++ (p ∷ []) ≡ e = cc in rw (← is) (find-append-same p q f, λ a. find-append-other p a q)
     by false d = let z : ◌≡◌ {A = ℕ} 0 1 = cc in absurd (omega arith)
 
 module _ (n : ℕ) (p : Pooled) (q : List Pooled) {e : List Pooled} (done_e : enter n p q ≡ done e) where
-  pub find-enter-same : find p.address e ≡ some p
+  pub find-enter-same : find p.address e ≡ Some p
   find-enter-same = (find_over n p q e (find p.address q) refl done_e).0
 
   pub find-enter-other : (a : ℕ) → (p.address ≡ a → ⊥) → find a e ≡ find a q
@@ -112,5 +112,5 @@ put-enter room p t = by (find p.address t.pool)
     need_by false = refl
 
     by : (o : Option Pooled) → put_over room p t o ≡ (enter_over room.pool p t.pool o >>= λ q. done (with_pool q t))
-    by (some o) = refl
-    by none = need_by (ltb (length t.pool) room.pool)
+    by (Some o) = refl
+    by None = need_by (ltb (length t.pool) room.pool)

@@ -2,7 +2,7 @@
 -- keeps the invariant. In order: addresses that have no row; one row for each; a row stored; with the links as they were; with a link to it. Assumes
 -- nothing.
 use mathlib.Core.Path.{◌≡◌, refl, sym, ap, subst, ◌∙◌}
-use mathlib.Core.Option.{none, some}
+use Rattle.std.specs.Prelude.{None, Some}
 use mathlib.Core.List.{List}
 use mathlib.Core.Logic.{◌⊎◌, inl, inr, ⊎_elim}
 use Prim.Native.Nat.{ℕ, zero, suc, ◌+◌, ◌-◌, ◌<◌, ◌≤◌}
@@ -186,7 +186,7 @@ module _ (n : ℕ) (key : ℕ → ℕ) (link : ℕ → ℕ → ℕ) (val : ℕ �
 
       -- the pool e has the row p, and else what q has; it is longer where the row was free
       pub record Entering (e : List Pooled) : Type 0 where
-        pub same : find p.address e ≡ some p
+        pub same : find p.address e ≡ Some p
         pub other : (a : ℕ) → (p.address ≡ a → ⊥) → find a e ≡ find a q
         pub again : 0 < key r → length e ≡ length q
         pub new : key r ≡ 0 → length e ≡ suc (length q)
@@ -226,16 +226,16 @@ module _ (n : ℕ) (key : ℕ → ℕ) (link : ℕ → ℕ → ℕ) (val : ℕ �
             (λ h. reaches_kept a j (H.reach a j l h.1))
             (now_or_before a j k)
 
-        stored_here : (a j : ℕ) → j < n → key' j ≡ suc a → find a e ≡ some (val' j)
+        stored_here : (a j : ℕ) → j < n → key' j ≡ suc a → find a e ≡ Some (val' j)
         stored_here a j l k =
             ⊎_elim
-            (λ h. subst (λ (x : ℕ). find x e ≡ some (val' j)) h.1 (E.same ∙ ap some (sym val_same ∙ ap val' (sym h.0))))
+            (λ h. subst (λ (x : ℕ). find x e ≡ Some (val' j)) h.1 (E.same ∙ ap Some (sym val_same ∙ ap val' (sym h.0))))
             (λ h.
             E.other a (λ s. h.0 (only j l (h.1 ∙ ap suc (sym s)))) ∙ H.here a j l h.1
-            ∙ ap some (sym (val-other j h.0)))
+            ∙ ap Some (sym (val-other j h.0)))
             (now_or_before a j k)
 
-        stored-nowhere : (a : ℕ) → ((j : ℕ) → j < n → key' j ≡ suc a → ⊥) → find a e ≡ none
+        stored-nowhere : (a : ℕ) → ((j : ℕ) → j < n → key' j ≡ suc a → ⊥) → find a e ≡ None
         stored-nowhere a f =
             E.other a (λ s. f r room (key-same ∙ ap suc s)) ∙ H.nowhere a (λ j l k. f j l (key-kept j (omega arith) ∙ k))
 

@@ -1,7 +1,7 @@
 -- The laws of storing a row of the pool: the ways out of `put`, and what a caller learns of a store, of the pool and of the format's
 -- tables. What the words of a row hold after a store is in `RowWords`. Assumes nothing.
 use mathlib.Core.Path.{◌≡◌, refl, sym, ap, subst, ◌∙◌}
-use mathlib.Core.Option.{none, some}
+use Rattle.std.specs.Prelude.{None, Some}
 use mathlib.Core.List.{List, [], ◌∷◌, ◌++◌}
 use mathlib.Core.Logic.{⊎_elim}
 use Prim.Native.Nat.{ℕ, suc, ◌+◌, ◌*◌, ◌/◌, ◌-◌, ◌<◌}
@@ -54,7 +54,7 @@ module _ (t : List ℕ) (p : Pooled) where
         entered =
             λ {n} {q} r.
             let H = holds_rows r in
-            let absent : find p.address q ≡ none =
+            let absent : find p.address q ≡ None =
             H.nowhere p.address (placed_absent t p.address i g H (λ l. absurd (omega arith)))
             in
             let full : length q ≡ pool_rows t = full_by i g s H in
@@ -95,8 +95,8 @@ module _ (t : List ℕ) (p : Pooled) (r : ℕ) (room : r < pool_rows t) (t'' : L
         pub entered_again : key t r ≡ suc p.address → ((j : ℕ) → j < pool_rows t → key t j ≡ suc p.address → j ≡ r) →
             Entered n p q Done t t''
         entered_again u only =
-            let found : find p.address q ≡ some (val t r) = (holds_rows h).here p.address r room u in
-            let stands : find p.address q ≡ none → ⊥ = λ e. let z : ◌≡◌ {A = ℕ} 0 1 = cc in omega arith in
+            let found : find p.address q ≡ Some (val t r) = (holds_rows h).here p.address r room u in
+            let stands : find p.address q ≡ None → ⊥ = λ e. let z : ◌≡◌ {A = ℕ} 0 1 = cc in omega arith in
             record {
               after = replace p q;
               answer = simp found;
@@ -113,7 +113,7 @@ module _ (t : List ℕ) (p : Pooled) (r : ℕ) (room : r < pool_rows t) (t'' : L
         -- the row was free, and no row had the address
         pub entered-new : key t r ≡ 0 → ((j : ℕ) → j < pool_rows t → key t j ≡ suc p.address → ⊥) → Entered n p q Done t t''
         entered-new z none_has =
-            let absent : find p.address q ≡ none = (holds_rows h).nowhere p.address none_has in
+            let absent : find p.address q ≡ None = (holds_rows h).nowhere p.address none_has in
             let longer : length (q ++ (p ∷ [])) ≡ suc (length q) = simp length-append (omega arith) in
             let left : Represents t'' n (q ++ (p ∷ [])) =
             stored (λ u. absurd (omega arith)) (λ j l k. absurd (none_has j l k)) (q ++ (p ∷ []))
@@ -326,7 +326,7 @@ module _ {p : Pooled} {r : Stored} {t₀ t : List ℕ} (s : Stores p r t₀ t) {
   put_kept e = subst (λ (x : Stored). Left x n after t₀ t) e (s.entered h).table
 
   -- what was pooled is found, and every other address as before
-  pub find-put-same : {f : Found} → r ≡ Done → Finds t p.address f → meant_found p.address f ≡ some p
+  pub find-put-same : {f : Found} → r ≡ Done → Finds t p.address f → meant_found p.address f ≡ Some p
   find-put-same e m = m.found (put-done e) ∙ find-enter-same n p q (put-fits e)
 
   pub find-put-other : {a : ℕ} {f : Found} → r ≡ Done → (p.address ≡ a → ⊥) → Finds t a f → meant_found a f ≡ find a q

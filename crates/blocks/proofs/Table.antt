@@ -2,7 +2,7 @@
 -- and `cached_as`. Storing a row is in `Storing`. Assumes nothing.
 use mathlib.Core.Path.{◌≡◌, refl, sym, ap, subst, ◌∙◌}
 use mathlib.Core.Bool.{true, false}
-use mathlib.Core.Option.{none, some}
+use Rattle.std.specs.Prelude.{None, Some}
 use mathlib.Core.List.{List, []}
 use mathlib.Core.Logic.{◌⊎◌, inl, inr, ⊎_elim}
 use Prim.Native.Nat.{ℕ, zero, suc, ◌+◌, ◌*◌, ◌/◌, ◌<◌, ◌≤◌}
@@ -72,7 +72,7 @@ represents_zero n =
     let size : length zeros ≡ n = length_zeros n in
     let word : (i : ℕ) → get_or zeros i 0 ≡ 0 = λ i. get_or_zeros n i in
     let free : (i : ℕ) → key zeros i ≡ 0 = λ i. key-free zeros i (ap kind_in (word (4 * i + 1))) in
-    let none : (i s : ℕ) → links zeros i s ≡ 0 = λ i s. ap (λ (w : ℕ). link_in w s) (word (4 * i + 1)) ∙ word-links s in
+    let None : (i s : ℕ) → links zeros i s ≡ 0 = λ i s. ap (λ (w : ℕ). link_in w s) (word (4 * i + 1)) ∙ word-links s in
     record {
       size = ap (λ (m : ℕ). m / 4) size;
       holds =
@@ -81,10 +81,10 @@ represents_zero n =
             here = λ a j l k. absurd (omega (arith, free j));
             nowhere = λ a f. refl;
             size = used-none (key zeros) (n / 4) (λ i l. free i);
-            taken = λ i l o. absurd (omega (arith, none 0 1));
-            led = λ a d i e. absurd (no_path (links zeros) (linkable (n / 4)) a d i (none 0 0) e);
-            alike = λ a d i b c e k l. absurd (no_path (links zeros) (linkable (n / 4)) a d i (none 0 0) e);
-            bare = λ i s h l o z. none i s;
+            taken = λ i l o. absurd (omega (arith, None 0 1));
+            led = λ a d i e. absurd (no_path (links zeros) (linkable (n / 4)) a d i (None 0 0) e);
+            alike = λ a d i b c e k l. absurd (no_path (links zeros) (linkable (n / 4)) a d i (None 0 0) e);
+            bare = λ i s h l o z. None i s;
           };
     }
 
@@ -172,8 +172,8 @@ module _ (t : List ℕ) (a i : ℕ) (p : PlacedAt t a i) where
       record {
         found =
             λ h.
-            ap (λ (x : Kind). some (pooled a x (rows f c))) e
-            ∙ ap (λ (x : ℕ). some (pooled x (kind_from (kind_in (code_at t i))) (rows f c))) is
+            ap (λ (x : Kind). Some (pooled a x (rows f c))) e
+            ∙ ap (λ (x : ℕ). Some (pooled x (kind_from (kind_in (code_at t i))) (rows f c))) is
             ∙ sym ((holds_rows h).here a i l own);
       }
 
@@ -186,7 +186,7 @@ module _ (t : List ℕ) (a i : ℕ) (p : PlacedAt t a i) where
       record { found = λ h. sym ((holds_rows h).nowhere a (placed_absent t a i p (holds_rows h) (λ o. absurd (omega arith)))) }
 
 -- nothing is found in a cleared table
-none_found : (a : ℕ) (r : Found) → meant_found a r ≡ none → r ≡ nothing-found
+none_found : (a : ℕ) (r : Found) → meant_found a r ≡ None → r ≡ nothing-found
 none_found a nothing-found e = refl
 none_found a (found_at k f c) e = let z : ◌≡◌ {A = ℕ} 0 1 = cc in absurd (omega arith)
 

@@ -1,7 +1,7 @@
 -- The pool in a lent table: a row near its address's home, or in a tree that goes by the address's bits. What `Represents` says is for
 -- the laws of this crate; callers carry it along. Definitions only.
 use Rattle.std.specs.Prelude.{ℕ, zero, suc, ◌+◌, ◌*◌, ◌/◌, ◌%◌, ◌-◌, ◌≤◌, ◌<◌, ◌≡◌, Bool, true, false, cond, List, ltb, eqb, length, get_or, set}
-use Rattle.std.proofs.Math.Option.{none, some}
+use Rattle.std.specs.Prelude.{None, Some}
 use Rattle.format.specs.Tables.{rows, Pooled, pooled, find}
 use Rattle.blocks.specs.Kinds.{kind_from, kind_code}
 use Rattle.blocks.specs.Tree.{kind_in, link_in, with_kind, with_link, linkable, side_at, path_at, EndsBehind}
@@ -75,8 +75,8 @@ pub data Reaches (n : ℕ) (key : ℕ → ℕ) (link : ℕ → ℕ → ℕ) (a j
 
 pub record HashHolds (n : ℕ) (key : ℕ → ℕ) (link : ℕ → ℕ → ℕ) (val : ℕ → Pooled) (q : List Pooled) : Type 0 where
   pub reach : (a j : ℕ) → j < n → key j ≡ suc a → Reaches n key link a j
-  pub here : (a j : ℕ) → j < n → key j ≡ suc a → find a q ≡ some (val j)
-  pub nowhere : (a : ℕ) → ((j : ℕ) → j < n → key j ≡ suc a → ⊥) → find a q ≡ none
+  pub here : (a j : ℕ) → j < n → key j ≡ suc a → find a q ≡ Some (val j)
+  pub nowhere : (a : ℕ) → ((j : ℕ) → j < n → key j ≡ suc a → ⊥) → find a q ≡ None
   pub size : length q ≡ used key n
   -- so many rows from the last on are taken, and every path is among them
   pub taken : (i : ℕ) → linkable n ≤ i + link 0 1 → i < linkable n → 0 < key i

@@ -1,7 +1,7 @@
 -- What the pool's functions promise, over the pool that the table holds: whatever pool that is, no code has it (docs/FORMAT.md,
 -- "Finding bytes"). Nothing here knows of hashing. Definitions only.
 use Rattle.std.specs.Prelude.{ℕ, ◌≡◌, List, [], ◌∷◌, ◌++◌, ltb, length}
-use Rattle.std.proofs.Math.Option.{Option, none, some}
+use Rattle.std.specs.Prelude.{Option, None, Some}
 use Rattle.format.specs.Result.{Res, refused, done, ◌>>=◌, need}
 use Rattle.format.specs.Refusal.{number}
 use Rattle.format.specs.Tables.{Kind, Rows, rows, Pooled, pooled, find, replace, as_kind}
@@ -22,13 +22,13 @@ pool_row a k f c = pooled a k (rows f c)
 
 -- the row found at the address a
 abbrev pub meant_found : ℕ → Found → Option Pooled
-meant_found a nothing-found = none
-meant_found a (found_at k f c) = some (pool_row a (meant_kind k) f c)
+meant_found a nothing-found = None
+meant_found a (found_at k f c) = Some (pool_row a (meant_kind k) f c)
 
 -- where what was read is stored, or the refusal's number
 abbrev pub meant_cached : Cached → Res (Option Rows)
-meant_cached nothing-cached = done none
-meant_cached (cached-at f c) = done (some (rows f c))
+meant_cached nothing-cached = done None
+meant_cached (cached-at f c) = done (Some (rows f c))
 meant_cached (Refused r) = refused (number r)
 
 -- the pool q with the row stored, or the refusal's number
@@ -39,8 +39,8 @@ meant_stored Full q = refused 1
 -- ---- entering a row: `put` of the format, of the pool alone, in a table of n rows
 
 abbrev pub enter_over : ℕ → Pooled → List Pooled → Option Pooled → Res (List Pooled)
-enter_over n p q (some o) = done (replace p q)
-enter_over n p q none = do
+enter_over n p q (Some o) = done (replace p q)
+enter_over n p q None = do
   u ← need 1 (ltb (length q) n)
   done (q ++ (p ∷ []))
 

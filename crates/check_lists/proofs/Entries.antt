@@ -1,7 +1,7 @@
 -- Rows of a table of entries, and the chains along them compared: entry by entry, and bucket by bucket. Assumes nothing.
 use mathlib.Core.Path.{◌≡◌, refl, sym, ap, ◌∙◌}
 use mathlib.Core.Bool.{Bool, true, false, ◌&&◌}
-use mathlib.Core.Option.{Option, none, some}
+use Rattle.std.specs.Prelude.{Option, None, Some}
 use mathlib.Core.List.{List, [], ◌∷◌}
 use Prim.Native.Nat.{ℕ, zero, suc, ◌+◌, ◌-◌, ◌*◌, ◌/◌, ◌≤◌, ◌<◌}
 use native.Mathlib.Omega.{arith}
@@ -49,25 +49,25 @@ module _ {A : Type 0} (f : A → A → Bool) where
       (o p : Option A) (os ps : Option (List A))
       → alike (same_list f) (onto o os) (onto p ps) ≡ (alike f o p && alike (same_list f) os ps)
   unfolding same_list
-  alike-onto none p os ps = refl
-  alike-onto (some x) none none ps = refl
-  alike-onto (some x) (some y) none ps = and-false (f x y)
-  alike-onto (some x) none (some xs) ps = refl
-  alike-onto (some x) (some y) (some xs) none = and-false (f x y)
-  alike-onto (some x) (some y) (some xs) (some ys) = refl
+  alike-onto None p os ps = refl
+  alike-onto (Some x) None None ps = refl
+  alike-onto (Some x) (Some y) None ps = and-false (f x y)
+  alike-onto (Some x) None (Some xs) ps = refl
+  alike-onto (Some x) (Some y) (Some xs) None = and-false (f x y)
+  alike-onto (Some x) (Some y) (Some xs) (Some ys) = refl
 
   -- an element in front of one alone
-  pub alike-second : (p : Option A) (ps : Option (List A)) → false ≡ alike (same_list f) (some []) (onto p ps)
+  pub alike-second : (p : Option A) (ps : Option (List A)) → false ≡ alike (same_list f) (Some []) (onto p ps)
   unfolding same_list
-  alike-second none ps = refl
-  alike-second (some y) none = refl
-  alike-second (some y) (some ys) = refl
+  alike-second None ps = refl
+  alike-second (Some y) None = refl
+  alike-second (Some y) (Some ys) = refl
 
-  pub alike-first : (o : Option A) (os : Option (List A)) → false ≡ alike (same_list f) (onto o os) (some [])
+  pub alike-first : (o : Option A) (os : Option (List A)) → false ≡ alike (same_list f) (onto o os) (Some [])
   unfolding same_list
-  alike-first none os = refl
-  alike-first (some x) none = refl
-  alike-first (some x) (some xs) = refl
+  alike-first None os = refl
+  alike-first (Some x) None = refl
+  alike-first (Some x) (Some xs) = refl
 
 -- ---- one chain
 
@@ -84,7 +84,7 @@ module _ (es ds : List EntryRow) where
   same_empty (suc n) a zero e = rw e
   same_empty (suc n) a (suc s) e =
       rw (e, ne_eqb (suc s) 0 (λ q. omega (arith, q)))
-      (alike-second same_entry (some (entry_of (get_or ds s no_entry).tag (get_or ds s no_entry).position))
+      (alike-second same_entry (Some (entry_of (get_or ds s no_entry).tag (get_or ds s no_entry).position))
       (chain_along ds n (get_or ds s no_entry).link))
 
   -- the second alone is
@@ -94,7 +94,7 @@ module _ (es ds : List EntryRow) where
   same_ended zero (suc r) b h e = refl
   same_ended (suc n) (suc r) b h e =
       rw e
-      (alike-first same_entry (some (entry_of (get_or es r no_entry).tag (get_or es r no_entry).position))
+      (alike-first same_entry (Some (entry_of (get_or es r no_entry).tag (get_or es r no_entry).position))
       (chain_along es n (get_or es r no_entry).link))
 
   -- none of its entries is allowed
@@ -117,8 +117,8 @@ module _ (es ds : List EntryRow) where
       let er : suc r - 1 ≡ r = omega arith in
       let es' : suc s - 1 ≡ s = omega arith in
       rw (en, ex, ey, er, es')
-      (alike-onto same_entry (some (entry_of (get_or es r no_entry).tag (get_or es r no_entry).position))
-      (some (entry_of (get_or ds s no_entry).tag (get_or ds s no_entry).position))
+      (alike-onto same_entry (Some (entry_of (get_or es r no_entry).tag (get_or es r no_entry).position))
+      (Some (entry_of (get_or ds s no_entry).tag (get_or ds s no_entry).position))
       (chain_along es n (get_or es r no_entry).link) (chain_along ds n (get_or ds s no_entry).link))
 
   -- the chains of some buckets, link by link

@@ -1,6 +1,6 @@
 -- A table of entries that holds some rows, zeros behind them: the chains along the table are those along the rows. Assumes nothing.
 use mathlib.Core.Path.{◌≡◌, refl, ap}
-use mathlib.Core.Option.{some}
+use Rattle.std.specs.Prelude.{Some}
 use mathlib.Core.List.{List, [], ◌∷◌, ◌++◌, flat_map}
 use Prim.Native.Nat.{ℕ, zero, suc, ◌-◌}
 use lib.ListN.{length, get_or, replicate}
@@ -48,7 +48,7 @@ module _ (es ds : List EntryRow) (h : (r : ℕ) → get_or es r no_entry ≡ get
   along-same (suc n) zero = refl
   along-same (suc n) (suc r) =
       rw (h r)
-      (ap (onto (some (entry_of (get_or ds r no_entry).tag (get_or ds r no_entry).position))) (along-same n (get_or ds r no_entry).link))
+      (ap (onto (Some (entry_of (get_or ds r no_entry).tag (get_or ds r no_entry).position))) (along-same n (get_or ds r no_entry).link))
 
   alongs_same : (n : ℕ) (ls : List ℕ) → chains_along es n ls ≡ chains_along ds n ls
   unfolding chains_along

@@ -1,6 +1,6 @@
 -- The entries that a lent table holds, and chains compared where both stand (docs/FORMAT.md, "Lookup and check"). Definitions only.
 use Rattle.std.specs.Prelude.{ℕ, Bool, false, List, [], ◌∷◌}
-use Rattle.std.proofs.Math.Option.{Option, none, some}
+use Rattle.std.specs.Prelude.{Option, None, Some}
 use Rattle.format.specs.Deriving.{EntryRow, entry_row}
 use Rattle.check_lists.specs.declared.Row.{Row}
 
@@ -17,6 +17,6 @@ meant_row r = entry_row r.tag r.position r.link
 
 -- both stand and are alike
 abbrev pub alike : {A : Type 0} → (A → A → Bool) → Option A → Option A → Bool
-alike f none o = false
-alike f (some x) none = false
-alike f (some x) (some y) = f x y
+alike f None o = false
+alike f (Some x) None = false
+alike f (Some x) (Some y) = f x y

@@ -1,6 +1,6 @@
 -- The derived chains in tables that hold their rows. Assumes nothing.
 use mathlib.Core.Path.{◌≡◌, ◌∙◌}
-use mathlib.Core.Option.{some}
+use Rattle.std.specs.Prelude.{Some}
 use mathlib.Core.List.{List, flat_map}
 use Prim.Native.Nat.{ℕ, ◌-◌}
 use lib.ListN.{length, take, replicate}
@@ -20,7 +20,7 @@ module _ (ts : List ℕ) where
   -- in tables that hold the rows
   pub chains-derived :
       {heads rows : List ℕ} (lb le : ℕ) → heads ≡ laid (bucket_rows ts) lb → rows ≡ laid (flat_map entry_words (entry_rows ts)) le
-      → {n c : ℕ} → n ≡ length ts → c ≡ count → chains_along (entries_in rows) n (take c heads) ≡ some (chains ts)
+      → {n c : ℕ} → n ≡ length ts → c ≡ count → chains_along (entries_in rows) n (take c heads) ≡ Some (chains ts)
   chains-derived {heads} {rows} lb le hb he {n} {c} en ec =
       let t : take count heads ≡ bucket_rows ts =
       rw hb (take_at (bucket_rows ts) (replicate (lb - length (bucket_rows ts)) 0) count (length-bucket_rows ts)) in

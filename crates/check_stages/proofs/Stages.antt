@@ -2,7 +2,7 @@
 -- Assumes nothing.
 use mathlib.Core.Path.{◌≡◌, refl, sym, ap, ◌∙◌}
 use mathlib.Core.Bool.{Bool, true, false, not}
-use mathlib.Core.Option.{Option, none, some}
+use Rattle.std.specs.Prelude.{Option, None, Some}
 use mathlib.Core.List.{List, flat_map}
 use Prim.Native.Nat.{ℕ, ◌-◌, ◌*◌, ◌≤◌}
 use native.Mathlib.Omega.{arith}
@@ -162,9 +162,9 @@ same-done g j k a e f = rw e f
 
 -- ---- chains
 
-alike-some : (o : Option (List (List Entry))) (d : List (List Entry)) → alike (same_list (same_list same_entry)) o (some d) ≡ same_chains o d
-alike-some none d = refl
-alike-some (some c) d = refl
+alike-some : (o : Option (List (List Entry))) (d : List (List Entry)) → alike (same_list (same_list same_entry)) o (Some d) ≡ same_chains o d
+alike-some None d = refl
+alike-some (Some c) d = refl
 
 pub chains_stage_lem :
     (n : ℕ) (t : List ℕ) (count : ℕ) (buckets entries : List ℕ) (lb le : ℕ) {b d : List ℕ} {g : Res ℕ} {a : Res (Unit {0})} →

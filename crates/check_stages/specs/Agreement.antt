@@ -1,6 +1,6 @@
 -- The tests of the verdict, stage by stage (docs/FORMAT.md, "Lookup and check"), and the stages' answer as a result. Definitions only.
 use Rattle.std.specs.Prelude.{ℕ, ◌*◌, List, length, take}
-use Rattle.std.proofs.Math.Option.{Option}
+use Rattle.std.specs.Prelude.{Option}
 use Rattle.format.specs.Result.{Res, refused, done, ◌>>=◌, need}
 use Rattle.format.specs.Refusal.{number}
 use Rattle.format.specs.Section.{Place}

@@ -2,7 +2,7 @@
 use Prim.Native.Nat.{ℕ}
 use native.Mathlib.Omega.{arith}
 use mathlib.Core.Path.{◌≡◌, refl, ap}
-use mathlib.Core.Option.{some}
+use Rattle.std.specs.Prelude.{Some}
 use Rattle.format.specs.Result.{done}
 use Rattle.format.specs.Tables.{SkeletonRow}
 use Rattle.format.specs.Tables.{part_length}
@@ -19,7 +19,7 @@ use Rattle.check_steps.specs.declared.Checked.{Checked}
 use Rattle.check_steps.specs.declared.Checked.TheVariants.{Nothing, Accepted, Refused}
 
 -- the check accepts where the format's does
-pub accepted : (r : Checked) (n : ℕ) → checked_of r ≡ done (some n) → r ≡ Accepted n
+pub accepted : (r : Checked) (n : ℕ) → checked_of r ≡ done (Some n) → r ≡ Accepted n
 accepted Nothing n e = let z : ◌≡◌ {A = ℕ} 0 1 = cc in absurd (omega arith)
 accepted (Accepted m) n e = let q : m ≡ n = cc in ap Accepted q
 accepted (Refused x) n e = let z : ◌≡◌ {A = ℕ} 0 1 = cc in absurd (omega arith)
@@ -30,7 +30,7 @@ pub record SkeletonIs (r : SkeletonRead) (s : SkeletonRow) : Type 0 where
   pub is : r ≡ R.Read skeleton
   pub meant : meant_skeleton skeleton ≡ s
 
-pub skeleton-is : (r : SkeletonRead) (s : SkeletonRow) → meant_read r ≡ done (some s) → SkeletonIs r s
+pub skeleton-is : (r : SkeletonRead) (s : SkeletonRow) → meant_read r ≡ done (Some s) → SkeletonIs r s
 skeleton-is R.Nothing s e = let z : ◌≡◌ {A = ℕ} 0 1 = cc in absurd (omega arith)
 skeleton-is (R.Read x) s e = record { skeleton = x; is = refl; meant = cc }
 skeleton-is (R.Refused x) s e = let z : ◌≡◌ {A = ℕ} 0 1 = cc in absurd (omega arith)

@@ -2,7 +2,7 @@
 use Prim.Native.Nat.{ℕ}
 use mathlib.Core.Path.{◌≡◌, refl, sym, ap, ◌∙◌}
 use mathlib.Core.Bool.{Bool, true, false}
-use mathlib.Core.Option.{some}
+use Rattle.std.specs.Prelude.{Some}
 use Rattle.format.specs.Result.{Res, refused, done}
 use Rattle.format.specs.Refusal.{number}
 use Rattle.format.specs.declared.Refusal.{Refusal}
@@ -44,7 +44,7 @@ module _ {v : Checked} {n : ℕ} (i : v ≡ Accepted n) {s : Agreement} (test : 
   unfolding behind
   test_refused f = rw (i, sym e, f) refl
 
-  pub test_same : s ≡ A.Same → done (some n) ≡ behind (checked_of v) test
+  pub test_same : s ≡ A.Same → done (Some n) ≡ behind (checked_of v) test
   unfolding behind
   test_same f = rw (i, sym e, f) refl
 
@@ -69,7 +69,7 @@ module _ {r : SkeletonRead} where
 -- ---- the beginning
 
 module _ {r : SkeletonRead} {s : Skeleton} (i : r ≡ R.Read s) (n : ℕ) {b t : Bool} (e : b ≡ t) where
-  pub room_enough : b ≡ true → done (some n) ≡ begun (meant_read r) n t
+  pub room_enough : b ≡ true → done (Some n) ≡ begun (meant_read r) n t
   room_enough f = rw (i, sym e, f) refl
 
   pub room-short : b ≡ false → refused 1 ≡ begun (meant_read r) n t

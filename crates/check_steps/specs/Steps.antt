@@ -1,7 +1,7 @@
 -- The answer of the check as the format has it, and the steps to it: how long the parts read are, what is answered behind an answer,
 -- what becomes of the reading's tables. Definitions only.
 use Rattle.std.specs.Prelude.{ℕ, Bool}
-use Rattle.std.proofs.Math.Option.{Option, none, some}
+use Rattle.std.specs.Prelude.{Option, None, Some}
 use Rattle.format.specs.Result.{Res, refused, done, ◌>>=◌, need}
 use Rattle.format.specs.Refusal.{number}
 use Rattle.read.specs.Lent.{Lent, cleared_all}
@@ -34,25 +34,25 @@ counts_of (R.Read s) =
 
 -- our answer as the format has it: the number of bones read, none for root 0, or the refusal's number
 abbrev pub checked_of : Checked → Res (Option ℕ)
-checked_of Nothing = done none
-checked_of (Accepted n) = done (some n)
+checked_of Nothing = done None
+checked_of (Accepted n) = done (Some n)
 checked_of (Refused x) = refused (number x)
 
 -- what is answered of a reading so far: n bones read, if there is room to derive from them
 abbrev pub begun : {A : Type 0} → Res (Option A) → ℕ → Bool → Res (Option ℕ)
 begun (refused c) n room = refused c
-begun (done none) n room = done none
-begun (done (some s)) n room = do
+begun (done None) n room = done None
+begun (done (Some s)) n room = do
   u ← need 1 room
-  done (some n)
+  done (Some n)
 
 -- a stage's test goes on from the answer so far: it is made only where there is a number of bones yet
 unfoldable pub behind : Res (Option ℕ) → (ℕ → Res (Unit {0})) → Res (Option ℕ)
 behind (refused c) test = refused c
-behind (done none) test = done none
-behind (done (some n)) test = do
+behind (done None) test = done None
+behind (done (Some n)) test = do
   u ← test n
-  done (some n)
+  done (Some n)
 
 -- ---- tables
 

@@ -61,7 +61,7 @@ fn status(c: CursorCheck) -> u64
 {
     match c {
         CursorCheck::Within => 0,
-        CursorCheck::Refused(x) => format::code(x) as u64,
+        CursorCheck::Refused(x) => u32::from(x) as u64,
     }
 }
 

@@ -1,7 +1,7 @@
 -- Following the links of the derived rows gives the derived chains, each of at most as many entries as there are bones. Assumes nothing.
 use mathlib.Core.Path.{◌≡◌, refl, ap, ◌∙◌}
 use mathlib.Core.Bool.{Bool, true, false, cond}
-use mathlib.Core.Option.{some}
+use Rattle.std.specs.Prelude.{Some}
 use mathlib.Core.List.{List, [], ◌∷◌, map}
 use Prim.Native.Nat.{ℕ, zero, suc, ◌%◌, ◌≤◌, ◌<◌}
 use native.Mathlib.Nat.{zero-add, le_refl}
@@ -32,7 +32,7 @@ module _ (ts : List ℕ) where
   -- the chain of the positions below n, where at most m entries are followed
   along-below :
       (b n m : ℕ) → n ≤ entry_count (length ts) → n ≤ m
-      → chain_along (entry_rows ts) m (link_below ts count b n) ≡ some (keep (in_bucket count b) (falling ts n))
+      → chain_along (entry_rows ts) m (link_below ts count b n) ≡ Some (keep (in_bucket count b) (falling ts n))
   unfolding link_below keep falling chain_along
   along-below b zero zero h k = refl
   along-below b zero (suc m) h k = refl
@@ -43,21 +43,21 @@ module _ (ts : List ℕ) where
     where
       by :
           (x : Bool) → eqb (get_or ts n 0 % count) b ≡ x
-          → chain_along (entry_rows ts) (suc m) (link_below ts count b n) ≡ some (keep (in_bucket count b) (falling ts n))
-          → chain_along (entry_rows ts) m (link_below ts count b n) ≡ some (keep (in_bucket count b) (falling ts n))
+          → chain_along (entry_rows ts) (suc m) (link_below ts count b n) ≡ Some (keep (in_bucket count b) (falling ts n))
+          → chain_along (entry_rows ts) m (link_below ts count b n) ≡ Some (keep (in_bucket count b) (falling ts n))
           → chain_along (entry_rows ts) (suc m) (cond x (suc n) (link_below ts count b n))
-          ≡ some (keep_if x (entry_of (get_or ts n 0) n) (keep (in_bucket count b) (falling ts n)))
+          ≡ Some (keep_if x (entry_of (get_or ts n 0) n) (keep (in_bucket count b) (falling ts n)))
       by false q e f = e
       by true q e f = rw (row_at n (omega arith), eqb-true (get_or ts n 0 % count) b q, f)
 
   alongs_below :
       (bs : List ℕ) → length ts ≤ entry_count (length ts)
-      → chains_along (entry_rows ts) (length ts) (map (λ b. link_below ts count b (length ts)) bs) ≡ some (map (chain ts count) bs)
+      → chains_along (entry_rows ts) (length ts) (map (λ b. link_below ts count b (length ts)) bs) ≡ Some (map (chain ts count) bs)
   unfolding chains_along chain
   alongs_below [] h = refl
   alongs_below (b ∷ bs) h = rw (along-below b (length ts) (length ts) h (le_refl (length ts)), alongs_below bs h)
 
-  pub rows-chained : chains_along (entry_rows ts) (length ts) (bucket_rows ts) ≡ some (chains ts)
+  pub rows-chained : chains_along (entry_rows ts) (length ts) (bucket_rows ts) ≡ Some (chains ts)
   unfolding bucket_rows chains up_from chains_along
   rows-chained = none_or_each (length ts) (λ z. rw z) (alongs_below (up_from 0 count))
 

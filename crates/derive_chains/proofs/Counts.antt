@@ -27,8 +27,8 @@ module _ (m n : ℕ) (from : m ≤ n) where
   -- where none is above m, none is above n
   first_above-none : (l : List ℕ) → Each (λ b. T (leb b m)) l → first_above n l ≡ 65521
   unfolding first_above
-  first_above-none [] none = refl
-  first_above-none (b ∷ l) none = rw (le-ltb n b (omega (arith, leb→le b m none.0)), first_above-none l none.1)
+  first_above-none [] None = refl
+  first_above-none (b ∷ l) None = rw (le-ltb n b (omega (arith, leb→le b m None.0)), first_above-none l None.1)
 
 -- ---- the number of buckets
 

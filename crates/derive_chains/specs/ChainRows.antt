@@ -1,7 +1,7 @@
 -- The rows that `build_bone_tags` leaves. docs/FORMAT.md ("Deriving") fixes the chains, and not the rows that hold them: ours stand in
 -- position order. `ChainRows` says that they hold the chains; `proofs/ChainRows.antt` proves it. Definitions only.
 use Rattle.std.specs.Prelude.{◌≡◌, ℕ, zero, suc, ◌%◌, cond, List, map, length, get_or, eqb}
-use Rattle.std.proofs.Math.Option.{some}
+use Rattle.std.specs.Prelude.{Some}
 use Rattle.format.specs.Chains.{bucket_count, entry_count, up_from, chains}
 use Rattle.format.specs.Deriving.{EntryRow, entry_row}
 use Rattle.format.specs.Check.{chains_along}
@@ -26,4 +26,4 @@ entry_rows tags =
 -- For all tags: following the links, from each bucket's row along the entries' rows until 0, gives the chains. None has more entries
 -- than there are bones.
 pub record ChainRows : Type 0 where
-  pub following : (tags : List ℕ) → chains_along (entry_rows tags) (length tags) (bucket_rows tags) ≡ some (chains tags)
+  pub following : (tags : List ℕ) → chains_along (entry_rows tags) (length tags) (bucket_rows tags) ≡ Some (chains tags)

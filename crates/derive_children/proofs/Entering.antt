@@ -25,7 +25,7 @@ abbrev behind : List ℕ → List ℕ → ℕ → ℕ → ℕ → List ℕ
 behind parents t i r y = set (set t i y) (4 * length parents + r) (i + 1)
 
 module _ (parents t : List ℕ) (i : ℕ) (inside : i < length parents) (room : 8 * (length parents + 1) ≤ length t)
-    (r y : ℕ) (some : 0 < r) (below : r ≤ length parents) where
+    (r y : ℕ) (Some : 0 < r) (below : r ≤ length parents) where
   length-behind : length (behind parents t i r y) ≡ length t
   length-behind = length-set (set t i y) (4 * length parents + r) (i + 1) ∙ length-set t i y
 
@@ -133,16 +133,16 @@ module _ (parents t : List ℕ) (i : ℕ) (inside : i < length parents) (x : Ind
       → Sought parents (link_at parents t) (get_or parents i 0) (first_at parents t s) (suc j)
       → IndexTable parents (behind parents t i (suc j) (head_at parents t j)) i
   enter_behind s j es k =
-      let some : 0 < suc j = omega arith in
+      let Some : 0 < suc j = omega arith in
       let y = head_at parents t j in
       let t'' = behind parents t i (suc j) (head_at parents t j) in
-      let other = behind-other parents t i inside x.room (suc j) (head_at parents t j) some k.below in
+      let other = behind-other parents t i inside x.room (suc j) (head_at parents t j) Some k.below in
       let entered =
       index-found parents (first_at parents t) (link_at parents t) (head_at parents t) (head_at parents t'') i inside x.index
-      (get_or parents i 0) s j refl es k (behind_head parents t i inside x.room (suc j) y some k.below)
+      (get_or parents i 0) s j refl es k (behind_head parents t i inside x.room (suc j) y Some k.below)
       (λ m b ne. other (4 * length parents + suc m) (λ q. absurd (omega arith)) (λ q. ne (omega arith))) in
       record {
-        room = rw (length-behind parents t i inside x.room (suc j) (head_at parents t j) some k.below) x.room;
+        room = rw (length-behind parents t i inside x.room (suc j) (head_at parents t j) Some k.below) x.room;
         index =
             index_agree parents (first_at parents t) (link_at parents t) (head_at parents t'') i entered
             (first_at parents t'') (link_at parents t'') (head_at parents t'')
@@ -150,7 +150,7 @@ module _ (parents t : List ℕ) (i : ℕ) (inside : i < length parents) (x : Ind
             (λ m b. other (3 * length parents + suc m) (λ q. absurd (omega arith)) (λ q. absurd (omega (arith, k.below))))
             (λ m b. refl);
         nexts =
-            nexts-entered t'' (behind-next parents t i inside x.room (suc j) y some k.below ∙ found s j es k)
+            nexts-entered t'' (behind-next parents t i inside x.room (suc j) y Some k.below ∙ found s j es k)
             (λ m ne b. other m ne (λ q. absurd (omega arith)));
       }
 
@@ -173,7 +173,7 @@ module _ (parents t : List ℕ) (i : ℕ) (inside : i < length parents) (x : Ind
       let e_a : 4 * length parents + suc i ≡ 4 * length parents + i + 1 = omega arith in
       let eB : 3 * length parents + suc i ≡ 3 * length parents + i + 1 = omega arith in
       let er : r ≡ 0 = omega arith in
-      let none : 0 ≡ first_word (positions_from parents (get_or parents i 0) (suc i)) =
+      let None : 0 ≡ first_word (positions_from parents (get_or parents i 0) (suc i)) =
       looked parents (first_at parents t) (link_at parents t) (head_at parents t) (suc i) x.index
       (get_or parents i 0) s 0 es (rw er at k) in
       record {
@@ -191,6 +191,6 @@ module _ (parents t : List ℕ) (i : ℕ) (inside : i < length parents) (x : Ind
             (λ m b ne. other (4 * length parents + suc m) (λ q. absurd (omega arith)) (λ q. ne (omega arith))
             (λ q. absurd (omega arith)) (λ q. absurd (omega arith)));
         nexts =
-            nexts-entered t'' (first_next parents t i inside x.room s slot ∙ none)
+            nexts-entered t'' (first_next parents t i inside x.room s slot ∙ None)
             (λ m ne b. other m ne (λ q. absurd (omega arith)) (λ q. absurd (omega arith)) (λ q. absurd (omega arith)));
       }

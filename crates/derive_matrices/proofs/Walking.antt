@@ -5,7 +5,7 @@ use native.Mathlib.Omega.{arith}
 use native.Mathlib.Nat.{add-zero, sub-zero}
 use mathlib.Core.Path.{◌≡◌, refl, sym, ap, ◌∙◌}
 use mathlib.Core.Bool.{false}
-use mathlib.Core.Option.{some}
+use Rattle.std.specs.Prelude.{Some}
 use mathlib.Core.List.{List}
 use lib.ListN.{length, drop}
 use lib.Seq.{get_or-drop}
@@ -28,11 +28,11 @@ unfolding bone_of
 joint_made t p r j er ej = simp (ej, er, get_or-drop, add-zero)
 
 -- the bone at a position is the bone in that row
-bone_at-bones_of : (n p : ℕ) (t : List ℕ) → p < n → bone_at (bones_of n t) p ≡ some (row_at t p)
+bone_at-bones_of : (n p : ℕ) (t : List ℕ) → p < n → bone_at (bones_of n t) p ≡ Some (row_at t p)
 unfolding bones_of bone_at
 bone_at-bones_of zero p t h = absurd (omega arith)
 bone_at-bones_of (suc n) zero t h = refl
-bone_at-bones_of (suc n) (suc p) t h = bone_at-bones_of n p (drop bone_width t) (omega arith) ∙ ap some (row_at-suc t p)
+bone_at-bones_of (suc n) (suc p) t h = bone_at-bones_of n p (drop bone_width t) (omega arith) ∙ ap Some (row_at-suc t p)
 
 -- ---- where the walk stops
 

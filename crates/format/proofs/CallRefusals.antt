@@ -4,7 +4,7 @@ use Prim.Native.Nat.{ℕ, zero, suc, ◌+◌, ◌-◌, ◌*◌, ◌/◌, ◌%◌
 use mathlib.Core.Path.{◌≡◌, refl, subst}
 use native.Mathlib.Omega.{arith}
 use mathlib.Core.Bool.{Bool, true, false, ◌||◌}
-use mathlib.Core.Option.{Option, none, some}
+use Rattle.std.specs.Prelude.{Option, None, Some}
 use mathlib.Core.List.{List, [], ◌∷◌}
 use lib.ListN.{length}
 use lib.Dec.{T, leb, ltb, eqb}
@@ -97,16 +97,16 @@ Reads = RefusesOnly reading_refusals
 
 as_only : (k : Kind) (o : Option Pooled) → Reads (as_kind k o)
 unfolding as_kind
-as_only k none = only-done _
-as_only k (some p) = only_then (only-need 12 (same_kind p.kind k) tt) λ u. only-done _
+as_only k None = only-done _
+as_only k (Some p) = only_then (only-need 12 (same_kind p.kind k) tt) λ u. only-done _
 
 put_only : (room : Room) (va : ℕ) (k : Kind) (r : Rows) (t : Tables) → Reads (put room va k r t)
 unfolding put_over
 put_only room va k r t = by (find va t.pool)
   where
     by : (o : Option Pooled) → Reads (put_over room (pooled va k r) t o)
-    by (some p) = only-done _
-    by none = only_then (only-need 1 (ltb (length t.pool) room.pool) tt) λ u. only-done _
+    by (Some p) = only-done _
+    by None = only_then (only-need 1 (ltb (length t.pool) room.pool) tt) λ u. only-done _
 
 link-only : (va : ℕ) (t : Tables) → Reads (link_to va t)
 unfolding link_to
@@ -127,16 +127,16 @@ module _ (sec : Section) (room : Room) where
       from :
           (b : List ℕ) (t'' : Tables) → ((a : ℕ) (u : Tables) → Reads (read_chain sec room left a u)) → (l : Option ℕ) →
           Reads (chain_from sec room (λ a u. read_chain sec room left a u) b (length t.chained.entries) t'' l)
-      from b t'' next (some k) = only-done _
-      from b t'' next none = next (entry_next b) _
+      from b t'' next (Some k) = only-done _
+      from b t'' next None = next (entry_next b) _
 
   head_only : (va : ℕ) (t : Tables) → Reads (read_head sec room va t)
   unfolding read_head head_from
   head_only va t = only_then (link-only va t) from
     where
       from : (l : Option ℕ) → Reads (head_from sec room va t l)
-      from (some k) = only-done _
-      from none = only_then (chain-only (room.entries - length t.chained.entries) va t) λ t''. only-done _
+      from (Some k) = only-done _
+      from None = only_then (chain-only (room.entries - length t.chained.entries) va t) λ t''. only-done _
 
   buckets-only : (ps : List ℕ) (t : Tables) → Reads (read_buckets sec room ps t)
   unfolding read_buckets
@@ -152,8 +152,8 @@ module _ (sec : Section) (room : Room) where
   bucket-array-only (suc a) n t = only_then (as_only T.buckets (find (suc a) t.pool)) from
     where
       from : (o : Option Rows) → Reads (buckets_from sec room (suc a) n t o)
-      from (some s) = only-done _
-      from none =
+      from (Some s) = only-done _
+      from None =
           only_then (array-only tt tt sec (suc a) (8 * n)) λ b.
           only_then (buckets-only (words 8 n b) t) λ t''.
           only_then (put_only room (suc a) T.buckets (rows (length t.chained.buckets) n) t'') λ t'''. only-done _
@@ -166,8 +166,8 @@ module _ (sec : Section) (room : Room) where
   name-only (suc a) t = only_then (as_only T.string (find (suc a) t.pool)) from
     where
       from : (o : Option Rows) → Reads (name_from sec room (suc a) t o)
-      from (some s) = only-done _
-      from none =
+      from (Some s) = only-done _
+      from None =
           only_then {m = name_at sec (suc a)} (only_then (cursor-only tt tt sec (suc a)) λ p. only-done _) λ p.
           only_then (put_only room (suc a) T.string (rows p.address p.size) t) λ t''. only-done _
 
@@ -176,8 +176,8 @@ module _ (sec : Section) (room : Room) where
   bone-only va t = only_then (as_only T.bone (find va t.pool)) from
     where
       from : (o : Option Rows) → Reads (bone_from sec room va t o)
-      from (some s) = only-done _
-      from none =
+      from (Some s) = only-done _
+      from None =
           only_then (part-only tt tt sec va 70) λ b.
           only_then (name-only (name_field b) t) λ n.
           only_then (only-need 1 (ltb (length n.1.bones) room.bones) tt) λ u.
@@ -194,8 +194,8 @@ module _ (sec : Section) (room : Room) where
   block-only (suc a) n t = only_then (as_only T.block (find (suc a) t.pool)) from
     where
       from : (o : Option Rows) → Reads (block_from sec room (suc a) n t o)
-      from (some s) = only-done _
-      from none =
+      from (Some s) = only-done _
+      from None =
           only_then (cursor-only tt tt sec (suc a)) λ c.
           only_then (bones-only n (suc a + 16) t) λ t''.
           only_then (put_only room (suc a) T.block (rows (length t.members) n) t'') λ t'''. only-done _
@@ -241,10 +241,10 @@ module _ (sec : Section) (room : Room) where
   list-only l (suc a) n t = from (find (suc a) t.pool)
     where
       from : (o : Option Pooled) → Reads (list_from sec room l (suc a) n t o)
-      from none =
+      from None =
           only_then (new-only l (suc a) n t) λ w.
           only_then (put_only room (suc a) (T.list l) w.0 w.1) λ t''. only-done _
-      from (some p) = only_then (kind-only l (suc a) n p.kind p.stored t) λ w. only-done _
+      from (Some p) = only_then (kind-only l (suc a) n p.kind p.stored t) λ w. only-done _
 
   -- the skeleton
 
@@ -266,8 +266,8 @@ module _ (sec : Section) (room : Room) where
   reading-only (suc a) t = only_then (as_only T.skeleton (find (suc a) t.pool)) from
     where
       from : (o : Option Rows) → Reads (skeleton_from sec room (suc a) t o)
-      from (some s) = only-done _
-      from none = only_then (new-skeleton-only (suc a) t) λ s. only-done _
+      from (Some s) = only-done _
+      from None = only_then (new-skeleton-only (suc a) t) λ s. only-done _
 
   read_only : (root : ℕ) → Reads (read sec room root)
   unfolding read
@@ -309,8 +309,8 @@ module _ (sec : Section) (room : Room) where
   check-only droom root = only_then (wider (read sec room root) (read_only root)) from
     where
       from : (o : Option Read) → RefusesOnly check_refusals (check_from droom o)
-      from none = only-done _
-      from (some r) = only_then (verdict-only droom r) λ n. only-done _
+      from None = only-done _
+      from (Some r) = only_then (verdict-only droom r) λ n. only-done _
 
 -- ---- lookup
 

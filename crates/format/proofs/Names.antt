@@ -4,7 +4,7 @@ use mathlib.Core.Path.{◌≡◌, refl, ap, ◌∙◌}
 use Prim.Native.Nat.{ℕ, ◌+◌, ◌<◌}
 use native.Mathlib.Omega.{arith}
 use mathlib.Core.Bool.{Bool, true, false, not, ◌&&◌}
-use mathlib.Core.Option.{Option, none, some}
+use Rattle.std.specs.Prelude.{Option, None, Some}
 use mathlib.Core.List.{[], ◌∷◌, ◌++◌}
 use lib.ListN.{length, length-append}
 use lib.Seq.{take_at}
@@ -38,7 +38,7 @@ until_zero_ended (b ∷ s) rest h = go (eqb b 0) h (until_zero_ended s rest)
 module _ (sys gfx : Bytes) (small : length sys < window) where
   -- a name where it was laid: it is found with its length, and its bytes are those laid
   pub name_back :
-      (off : ℕ) (s : Bytes) → T (no_zero s) → At sys off (ended_name (some s)) →
+      (off : ℕ) (s : Bytes) → T (no_zero s) → At sys off (ended_name (Some s)) →
       name_at (alone sys gfx) (base + off) ≡ done (placed (base + off) s)
   unfolding name_at ended_name
   name_back off s h a =
@@ -58,5 +58,5 @@ module _ (sys gfx : Bytes) (small : length sys < window) where
       (off : ℕ) (nm : Option Bytes) → At sys off (ended_name nm) →
       map_name (name_bytes (alone sys gfx)) (map_name (placed (base + off)) nm) ≡ nm
   unfolding ended_name
-  optional_back off none a = refl
-  optional_back off (some s) a = ap some (bytes_back off s a)
+  optional_back off None a = refl
+  optional_back off (Some s) a = ap Some (bytes_back off s a)

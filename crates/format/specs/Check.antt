@@ -1,6 +1,6 @@
 -- The skeleton check (docs/FORMAT.md, "Lookup and check"). Definitions only.
 use Rattle.std.specs.Prelude.{ℕ, zero, suc, Bool, true, false, ◌&&◌, List, [], ◌∷◌, length, get_or, take, drop, eqb}
-use Rattle.std.proofs.Math.Option.{Option, none, some}
+use Rattle.std.specs.Prelude.{Option, None, Some}
 use Rattle.format.specs.Result.{Res, done, ◌>>=◌, need}
 use Rattle.format.specs.Section.{Section, Place}
 use Rattle.format.specs.Bone.{Bone}
@@ -15,12 +15,12 @@ use Rattle.format.specs.Read.{read_skeleton}
 -- ---- the lists that reading gives; an absent list is an empty one
 
 abbrev pub list_read : ListTable → Option Rows → Tables → List ℕ
-list_read l none t = []
-list_read l (some r) t = list_at l r t
+list_read l None t = []
+list_read l (Some r) t = list_at l r t
 
 abbrev pub add_some : {A : Type 0} → Option A → List A → List A
-add_some none l = l
-add_some (some x) l = x ∷ l
+add_some None l = l
+add_some (Some x) l = x ∷ l
 
 -- the bones of some rows
 unfoldable pub gather : List (Bone Place) → List ℕ → List (Bone Place)
@@ -28,14 +28,14 @@ gather bs [] = []
 gather bs (r ∷ rs) = add_some (bone_at bs r) (gather bs rs)
 
 abbrev pub bones_read : Option Rows → Tables → List (Bone Place)
-bones_read none t = []
-bones_read (some r) t = gather t.bones (take r.count (drop r.first t.members))
+bones_read None t = []
+bones_read (Some r) t = gather t.bones (take r.count (drop r.first t.members))
 
 -- an element put in front of a list, where both stand
 abbrev pub onto : {A : Type 0} → Option A → Option (List A) → Option (List A)
-onto none l = none
-onto (some x) none = none
-onto (some x) (some l) = some (x ∷ l)
+onto None l = None
+onto (Some x) None = None
+onto (Some x) (Some l) = Some (x ∷ l)
 
 abbrev pub no_entry : EntryRow
 no_entry = entry_row 0 0 0
@@ -43,21 +43,21 @@ no_entry = entry_row 0 0 0
 -- The chain from a link: the tags and positions met along its links until 0, shared entries included. `left` is the number of bones
 -- read: a chain with more entries, a circular one among them, is none, and no derived chain has more.
 unfoldable pub chain_along : List EntryRow → ℕ → ℕ → Option (List Entry)
-chain_along es zero zero = some []
-chain_along es zero (suc r) = none
-chain_along es (suc left) zero = some []
+chain_along es zero zero = Some []
+chain_along es zero (suc r) = None
+chain_along es (suc left) zero = Some []
 chain_along es (suc left) (suc r) =
     let e = get_or es r no_entry in
-    onto (some (entry_of e.tag e.position)) (chain_along es left e.link)
+    onto (Some (entry_of e.tag e.position)) (chain_along es left e.link)
 
 -- the chains of some buckets, or none where one is too long
 unfoldable pub chains_along : List EntryRow → ℕ → List ℕ → Option (List (List Entry))
-chains_along es n [] = some []
+chains_along es n [] = Some []
 chains_along es n (l ∷ ls) = onto (chain_along es n l) (chains_along es n ls)
 
 abbrev pub chains_read : ℕ → Option Rows → Tables → Option (List (List Entry))
-chains_read n none t = some []
-chains_read n (some r) t = chains_along t.chained.entries n (take r.count (drop r.first t.chained.buckets))
+chains_read n None t = Some []
+chains_read n (Some r) t = chains_along t.chained.entries n (take r.count (drop r.first t.chained.buckets))
 
 -- ---- comparing lists
 
@@ -74,8 +74,8 @@ abbrev pub same_words : List ℕ → List ℕ → Bool
 same_words = same_list eqb
 
 abbrev pub same_chains : Option (List (List Entry)) → List (List Entry) → Bool
-same_chains none d = false
-same_chains (some c) d = same_list (same_list same_entry) c d
+same_chains None d = false
+same_chains (Some c) d = same_list (same_list same_entry) c d
 
 -- ---- the check
 
@@ -112,8 +112,8 @@ verdict room r = do
   done (length r.bones)
 
 abbrev pub read_from : Option SkeletonRow → Tables → Option Read
-read_from none t = none
-read_from (some s) t = some (read_of s t)
+read_from None t = None
+read_from (Some s) t = Some (read_of s t)
 
 -- A section read by itself, with an empty pool: what was read, none for root 0.
 unfoldable pub read : Section → Room → ℕ → Res (Option Read)
@@ -122,10 +122,10 @@ read sec room root = do
   done (read_from s t)
 
 unfoldable pub check_from : DeriveRoom → Option Read → Res (Option ℕ)
-check_from droom none = done none
-check_from droom (some r) = do
+check_from droom None = done None
+check_from droom (Some r) = do
   n ← verdict droom r
-  done (some n)
+  done (Some n)
 
 -- The bone count of an accepted section, none for root 0. Refusals: reading's, deriving's 1, 21 to 25.
 unfoldable pub check : Section → Room → DeriveRoom → ℕ → Res (Option ℕ)

@@ -1,6 +1,6 @@
 -- Controls of lookup and check (see `Controls`): where a chain is left, and the order of the refusals. Definitions only.
 use Rattle.std.specs.Prelude.{◌≡◌, [], ◌∷◌}
-use Rattle.std.proofs.Math.Option.{none, some}
+use Rattle.std.specs.Prelude.{None, Some}
 use Rattle.format.specs.Result.{refused, done}
 use Rattle.format.specs.Layout.{base}
 use Rattle.format.specs.Lookup.{lookup}
@@ -17,17 +17,17 @@ pub record CheckControls : Type 0 where
   -- the bone count is 1: 14 goes before 10 of the second entry, whose address is in neither half
   pub fourteen_first : lookup (control_with ((94, 1) ∷ (219, 64) ∷ [])) base 16 ≡ refused 14
   -- bit 16 of the first entry's tag is set: it is not tag 5, and the third is found
-  pub key_of32_bits : lookup (control_with ((210, 1) ∷ [])) base 5 ≡ done (some 0)
+  pub key_of32_bits : lookup (control_with ((210, 1) ∷ [])) base 5 ≡ done (Some 0)
   -- bit 16 of the first entry's position is set
-  pub position_of32_bits : lookup (control_with ((214, 1) ∷ [])) base 5 ≡ done (some 0x1_0002)
+  pub position_of32_bits : lookup (control_with ((214, 1) ∷ [])) base 5 ≡ done (Some 0x1_0002)
   -- no bucket pointer, and no buckets
-  pub no_bucket_pointer : lookup (control_with ((16, 0) ∷ (19, 0) ∷ [])) base 5 ≡ done none
-  pub no_bucket_count : lookup (control_with ((24, 0) ∷ [])) base 5 ≡ done none
+  pub no_bucket_pointer : lookup (control_with ((16, 0) ∷ (19, 0) ∷ [])) base 5 ≡ done None
+  pub no_bucket_count : lookup (control_with ((24, 0) ∷ [])) base 5 ≡ done None
   -- the bucket array runs past the section's end, though bucket 0 stands
   pub whole_array : lookup (control_with ((16, 128) ∷ (17, 3) ∷ [])) base 0 ≡ refused 11
   -- the first 98 bytes of a section of no bones, and root 0
-  pub lookup_in98 : lookup (shortened 98) base 0 ≡ done none
-  pub lookup_at_zero : lookup (control_with []) 0 5 ≡ done none
+  pub lookup_in98 : lookup (shortened 98) base 0 ≡ done None
+  pub lookup_at_zero : lookup (control_with []) 0 5 ≡ done None
   -- ---- the check
   -- a wrong parent, child, inverse word and local word: the refusals in their order
   pub parents_first : check_with ((914, 1) ∷ (928, 2) ∷ (528, 13) ∷ (720, 1) ∷ []) ≡ refused 22
@@ -44,4 +44,4 @@ pub record CheckControls : Type 0 where
   -- bit 16 of the first entry's tag is set
   pub entry_tag_of32_bits : check_with ((210, 1) ∷ []) ≡ refused 21
   -- root 0
-  pub check_at_zero : check (control_with []) program_room program_derive_room 0 ≡ done none
+  pub check_at_zero : check (control_with []) program_room program_derive_room 0 ≡ done None

@@ -3,7 +3,7 @@
 -- and holds these files to it: it runs the published Rust, puts the check together from the Rust's own functions, and follows chains for
 -- the lookup, which the Rust has not, over the Rust's own reader. Every NaN word outside column 4 counts as 7FC00000 hex. Definitions only.
 use Rattle.std.specs.Prelude.{◌≡◌, ℕ, List, [], ◌∷◌, map, set, take, replicate}
-use Rattle.std.proofs.Math.Option.{Option, none, some}
+use Rattle.std.specs.Prelude.{Option, None, Some}
 use Rattle.format.specs.Result.{Res, refused, done}
 use Rattle.format.specs.Section.{Section, Place, name_bytes}
 use Rattle.format.specs.Bone.{Bone, Words3, Words4, words3, words4, minus_one, naming}
@@ -26,7 +26,7 @@ turned p i s =
       scale = words3 0x3F80_0000 0x4000_0000 0x3F00_0000;
       next_sibling = 2;
       parent = p;
-      name = some s;
+      name = Some s;
       flags = 7;
       index = i;
       tag = 5;
@@ -46,7 +46,7 @@ root_at v k =
       scale = words3 0x3F80_0000 0x3F80_0000 0x3F80_0000;
       next_sibling = minus_one;
       parent = minus_one;
-      name = none;
+      name = None;
       flags = 0;
       index = 0;
       tag = 0;
@@ -87,20 +87,20 @@ check_with es = check (control_with es) program_room program_derive_room base
 -- the bones read, with their names' bytes
 abbrev pub bones_named : Section → Res (Option Read) → Res (Option (List NamedBone))
 bones_named sec (refused n) = refused n
-bones_named sec (done none) = done none
-bones_named sec (done (some r)) = done (some (map (naming (name_bytes sec)) r.bones))
+bones_named sec (done None) = done None
+bones_named sec (done (Some r)) = done (Some (map (naming (name_bytes sec)) r.bones))
 
 abbrev pub bones_back : Section → Res (Option (List NamedBone))
 bones_back sec = bones_named sec (read sec program_room base)
 
 abbrev pub children_read : Res (Option Read) → List ℕ
-children_read (done (some r)) = r.children
-children_read (done none) = []
+children_read (done (Some r)) = r.children
+children_read (done None) = []
 children_read (refused n) = []
 
 abbrev pub kept_read : Res (Option Read) → List Words4
-kept_read (done (some r)) = map (λ (b : Bone Place). b.kept) r.bones
-kept_read (done none) = []
+kept_read (done (Some r)) = map (λ (b : Bone Place). b.kept) r.bones
+kept_read (done None) = []
 kept_read (refused n) = []
 
 -- ---- the cases
@@ -109,8 +109,8 @@ pub record Controls : Type 0 where
   -- the Rust lays the three bones just so
   pub lays : layout three no_free ≡ control_bytes
   -- and reads them back
-  pub reads_back : bones_back (control_with []) ≡ done (some three)
-  pub accepted : check_with [] ≡ done (some 3)
+  pub reads_back : bones_back (control_with []) ≡ done (Some three)
+  pub accepted : check_with [] ≡ done (Some 3)
   -- reading refuses
   -- the top four bits of the inverse pointer are 4
   pub neither_half : read_with ((43, 64) ∷ []) ≡ refused 10
@@ -123,7 +123,7 @@ pub record Controls : Type 0 where
   -- bone 0's name lies at the first entry
   pub name_at_entry : read_with ((328, 208) ∷ (329, 0) ∷ []) ≡ refused 12
   -- bone 0's name lies at bone 0 itself: the name is pooled before its bone
-  pub name_at_its_bone : check_with ((328, 16) ∷ (329, 1) ∷ []) ≡ done (some 3)
+  pub name_at_its_bone : check_with ((328, 16) ∷ (329, 1) ∷ []) ≡ done (Some 3)
   -- the bone count is 4: the fourth bone lies where bone 0's name was read
   pub fourth_bone : read_with ((94, 4) ∷ []) ≡ refused 12
   -- the bones pointer is 15
@@ -132,7 +132,7 @@ pub record Controls : Type 0 where
   pub twelve_before_ten :
       read_with ((24, 0) ∷ (19, 0) ∷ (328, 112) ∷ (329, 0) ∷ (331, 0) ∷ []) ≡ refused 12
   -- the last field of a skeleton ends at 98: the first 98 bytes of a section of no bones read, and 97 do not
-  pub ninety_eight : check (shortened 98) program_room program_derive_room base ≡ done (some 0)
+  pub ninety_eight : check (shortened 98) program_room program_derive_room base ≡ done (Some 0)
   pub ninety_seven : check (shortened 97) program_room program_derive_room base ≡ refused 11
   -- the check refuses
   -- the bones pointer is 16: no bones, and eleven chains too many
@@ -154,7 +154,7 @@ pub record Controls : Type 0 where
   -- the lowest bit of the first local word is turned
   pub wrong_local : check_with ((720, 1) ∷ []) ≡ refused 25
   -- another column 4 of the first local matrix is another bone, and no fault
-  pub other_column4 : check_with ((732, 9) ∷ []) ≡ done (some 3)
+  pub other_column4 : check_with ((732, 9) ∷ []) ≡ done (Some 3)
   -- lists that lie at one address
   -- the children pointer is the parents pointer: three entries, whatever the child count
   pub children_at_parents : children_read (read_with ((64, 144) ∷ [])) ≡ 65535 ∷ 0 ∷ 0 ∷ []
@@ -165,7 +165,7 @@ pub record Controls : Type 0 where
   pub local_at_inverse_refused : check_with ((48, 16) ∷ []) ≡ refused 25
   -- lookups
   -- tags 5, 16, 27, 0
-  pub lookups : map (lookup (control_with []) base) (5 ∷ 16 ∷ 27 ∷ 0 ∷ []) ≡ done (some 2) ∷ done (some 1) ∷ done none ∷ done none ∷ []
+  pub lookups : map (lookup (control_with []) base) (5 ∷ 16 ∷ 27 ∷ 0 ∷ []) ≡ done (Some 2) ∷ done (Some 1) ∷ done None ∷ done None ∷ []
   -- tag 16 behind an entry that links to itself
   pub circular_lookup : lookup (control_with ((216, 208) ∷ [])) base 16 ≡ refused 14
   -- derived matrices of one root: −0 and NaN words

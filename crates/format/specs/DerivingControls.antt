@@ -1,6 +1,6 @@
 -- Controls of deriving (see `Controls`): chains, children, inverse matrices, and the sizes of the tables. Definitions only.
 use Rattle.std.specs.Prelude.{◌≡◌, ℕ, true, false, [], ◌∷◌, map, length, get_or, replicate}
-use Rattle.std.proofs.Math.Option.{none}
+use Rattle.std.specs.Prelude.{None}
 use Rattle.format.specs.Bone.{Words3, Words4, words3, words4, minus_one}
 use Rattle.format.specs.Chains.{chains}
 use Rattle.format.specs.Children.{children}
@@ -17,7 +17,7 @@ leaning q v p =
       scale = words3 0x3F80_0000 0x3F80_0000 0x3F80_0000;
       next_sibling = minus_one;
       parent = p;
-      name = none;
+      name = None;
       flags = 0;
       index = 0;
       tag = 0;

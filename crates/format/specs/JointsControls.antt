@@ -1,7 +1,7 @@
 -- Controls of the joints (see `Controls`): what is written and read back, the rows wanted, the bytes that must stand, the order of the
 -- refusals, one record, the fresh limit. Definitions only.
 use Rattle.std.specs.Prelude.{◌≡◌, [], ◌∷◌, ◌++◌, map, replicate, drop, ℕ}
-use Rattle.std.proofs.Math.Option.{none, some}
+use Rattle.std.specs.Prelude.{None, Some}
 use Rattle.format.specs.Result.{refused, done}
 use Rattle.format.specs.Field.{field, word_bytes}
 use Rattle.format.specs.Section.{Section}
@@ -56,22 +56,22 @@ pub record JointsControls : Type 0 where
   pub limits_back :
       read_joints joints21 2 1 base ≡
       done
-      (some
+      (Some
       (record {
         kind = 0x4061_7C60;
         rotation_count = 2;
         translation_count = 1;
-        rotation = some (rotation1 ∷ rotation1 ∷ []);
-        translation = some (translation1 ∷ []);
+        rotation = Some (rotation1 ∷ rotation1 ∷ []);
+        translation = Some (translation1 ∷ []);
       }))
   -- a row short for the rotation limits, and for the translation limit
   pub no_rotation_row : read_joints joints21 1 1 base ≡ refused 1
   pub no_translation_row : read_joints joints21 2 0 base ≡ refused 1
   -- root 0
-  pub joints_at_zero : read_joints joints21 2 1 0 ≡ done none
+  pub joints_at_zero : read_joints joints21 2 1 0 ≡ done None
   -- the last field read ends at 52
   pub fifty_two : read_joints (halves (replicate 52 0) []) 0 0 base ≡
-      done (some (record { kind = 0; rotation_count = 0; translation_count = 0; rotation = none; translation = none }))
+      done (Some (record { kind = 0; rotation_count = 0; translation_count = 0; rotation = None; translation = None }))
   pub fifty_one : read_joints (halves (replicate 51 0) []) 0 0 base ≡ refused 11
   -- one rotation limit at the address 1, and no row for it: 10 goes before 1
   pub limit_bytes_first : read_joints (halves (replicate 16 0 ++ 1 ∷ replicate 31 0 ++ 1 ∷ replicate 3 0) []) 0 0 base ≡ refused 10

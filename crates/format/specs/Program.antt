@@ -1,6 +1,6 @@
 -- The program: what it prints for its standard input (docs/FORMAT.md, "Joints and names"). Definitions only.
 use Rattle.std.specs.Prelude.{ℕ, zero, suc, ◌+◌, ◌*◌, ◌/◌, ◌%◌, cond, [], ◌∷◌, ◌++◌, length, leb, ltb}
-use Rattle.std.proofs.Math.Option.{Option, none, some}
+use Rattle.std.specs.Prelude.{Option, None, Some}
 use Rattle.format.specs.Result.{Res, refused, done, ◌>>=◌, need}
 use Rattle.format.specs.Deriving.{DeriveRoom}
 use Rattle.format.specs.Tables.{Room}
@@ -30,8 +30,8 @@ line word n = word ++ 32 ∷ digits_onto 5 n (10 ∷ [])
 
 -- `ok` and the bone count, or `refused` and the number; the root is not 0, so that none does not arise
 abbrev pub report : Res (Option ℕ) → Bytes
-report (done (some n)) = line (111 ∷ 107 ∷ []) n
-report (done none) = []
+report (done (Some n)) = line (111 ∷ 107 ∷ []) n
+report (done None) = []
 report (refused n) = line (114 ∷ 101 ∷ 102 ∷ 117 ∷ 115 ∷ 101 ∷ 100 ∷ []) n
 
 -- what is printed for the bytes of standard input: refused 1 if they are more than 65,536

@@ -1,6 +1,6 @@
 -- Controls of the hash, the name search, the program's tables and what it prints (see `Controls`). Definitions only.
 use Rattle.std.specs.Prelude.{◌≡◌, [], ◌∷◌, map, replicate}
-use Rattle.std.proofs.Math.Option.{none, some}
+use Rattle.std.specs.Prelude.{None, Some}
 use Rattle.format.specs.Result.{done}
 use Rattle.format.specs.Layout.{base}
 use Rattle.format.specs.Hash.{rage_joaat}
@@ -13,11 +13,11 @@ pub record ProgramControls : Type 0 where
   -- the hash of two bytes above 127
   pub high_bytes : rage_joaat (195 ∷ 191 ∷ []) ≡ 0x4983_36EF
   -- the keys of "He" and of the empty name, and one that no name has
-  pub searches : map (search (control_with []) program_room base) (0x8B6F_4551 ∷ 0 ∷ 1 ∷ []) ≡ done (some 0) ∷ done (some 2) ∷ done none ∷ []
+  pub searches : map (search (control_with []) program_room base) (0x8B6F_4551 ∷ 0 ∷ 1 ∷ []) ≡ done (Some 0) ∷ done (Some 2) ∷ done None ∷ []
   -- bone 2 has the name "He" too: the first is found
-  pub first_of_two : search (control_with ((488, 0) ∷ (489, 2) ∷ [])) program_room base 0x8B6F_4551 ≡ done (some 0)
+  pub first_of_two : search (control_with ((488, 0) ∷ (489, 2) ∷ [])) program_room base 0x8B6F_4551 ≡ done (Some 0)
   -- root 0
-  pub search_at_zero : search (control_with []) program_room 0 0 ≡ done none
+  pub search_at_zero : search (control_with []) program_room 0 0 ≡ done None
   -- the rows of the program's tables for reading, and for deriving (docs/FORMAT.md, "Joints and names")
   pub program_tables :
       program_room.bones ∷ program_room.buckets ∷ program_room.entries ∷ program_room.inverse ∷ program_room.local ∷

@@ -1,7 +1,7 @@
 -- `Skeleton::read` in its order: buckets with chains, bones with names, inverse, local, parents, children (docs/FORMAT.md, "Finding bytes"
 -- and "Reading and writing a skeleton"). Definitions only.
 use Rattle.std.specs.Prelude.{ℕ, zero, suc, ◌+◌, ◌-◌, ◌*◌, Bool, true, false, List, [], ◌∷◌, length, get_or, take, drop, leb, ltb, eqb}
-use Rattle.std.proofs.Math.Option.{Option, none, some}
+use Rattle.std.specs.Prelude.{Option, None, Some}
 use Rattle.format.specs.Result.{Res, refused, done, ◌>>=◌, need}
 use Rattle.format.specs.Field.{words}
 use Rattle.format.specs.Section.{Section, Place, cursor, part, array, name_at}
@@ -32,9 +32,9 @@ take_columns (r ∷ rs) (w ∷ ws) bs = take_columns rs (drop 15 ws) (alter r (k
 
 -- the tables once the bones that stand have taken column 4 of the local matrices that stand
 abbrev pub keep_columns : Option Rows → Option Rows → Tables → Tables
-keep_columns none l t = t
-keep_columns (some b) none t = t
-keep_columns (some b) (some l) t =
+keep_columns None l t = t
+keep_columns (Some b) None t = t
+keep_columns (Some b) (Some l) t =
     with_bones (take_columns (take b.count (drop b.first t.members)) (list_at local_table l t) t.bones) t
 
 -- the row of a skeleton: the header's fields, and the lists that stand
@@ -63,24 +63,24 @@ no_skeleton =
       bucket_count = 0;
       bone_count = 0;
       child_count = 0;
-      buckets = none;
-      bones = none;
-      inverse = none;
-      local = none;
-      parents = none;
-      children = none;
+      buckets = None;
+      bones = None;
+      inverse = None;
+      local = None;
+      parents = None;
+      children = None;
     }
 
 -- ---- links
 
 -- the link to an entry that was read, by the rows found
 abbrev pub link_of : Option Rows → Option ℕ
-link_of none = none
-link_of (some s) = some (suc s.first)
+link_of None = None
+link_of (Some s) = Some (suc s.first)
 
 -- The link to an address: 0 for the address 0, the row for an entry already read. None where the entry there is yet to be read.
 unfoldable pub link_to : ℕ → Tables → Res (Option ℕ)
-link_to zero t = done (some 0)
+link_to zero t = done (Some 0)
 link_to (suc a) t = do
   r ← read_as entry (suc a) t
   done (link_of r)
@@ -91,8 +91,8 @@ module _ (sec : Section) (room : Room) where
 
   -- the entry with bytes b, stored with its link; where the next entry is yet to be read, it will stand in the next row
   abbrev pub chain_from : (ℕ → Tables → Res Tables) → List ℕ → ℕ → Tables → Option ℕ → Res Tables
-  chain_from next b n t (some k) = done (add_entry (entry_row (entry_tag b) (entry_position b) k) t)
-  chain_from next b n t none = next (entry_next b) (add_entry (entry_row (entry_tag b) (entry_position b) (suc (suc n))) t)
+  chain_from next b n t (Some k) = done (add_entry (entry_row (entry_tag b) (entry_position b) k) t)
+  chain_from next b n t None = next (entry_next b) (add_entry (entry_row (entry_tag b) (entry_position b) (suc (suc n))) t)
 
   -- The entry at an address and those behind it, up to a link 0 or an entry already read. `left` is the room left for entries.
   unfoldable pub read_chain : ℕ → ℕ → Tables → Res Tables
@@ -106,8 +106,8 @@ module _ (sec : Section) (room : Room) where
     chain_from (λ a u. read_chain left a u) b (length t.chained.entries) t'' l
 
   unfoldable pub head_from : ℕ → Tables → Option ℕ → Step ℕ
-  head_from va t (some k) = done (k, t)
-  head_from va t none = do
+  head_from va t (Some k) = done (k, t)
+  head_from va t None = do
     t'' ← read_chain (room.entries - length t.chained.entries) va t
     done (suc (length t.chained.entries), t'')
 
@@ -126,15 +126,15 @@ module _ (sec : Section) (room : Room) where
     read_buckets ps (add_bucket k t'')
 
   unfoldable pub buckets_from : ℕ → ℕ → Tables → Option Rows → Step (Option Rows)
-  buckets_from va n t (some s) = done (some s, t)
-  buckets_from va n t none = do
+  buckets_from va n t (Some s) = done (Some s, t)
+  buckets_from va n t None = do
     b ← array sec va (8 * n)
     t'' ← read_buckets (words 8 n b) t
     t''' ← put room va buckets (rows (length t.chained.buckets) n) t''
-    done (some (rows (length t.chained.buckets) n), t''')
+    done (Some (rows (length t.chained.buckets) n), t''')
 
   unfoldable pub read_bucket_array : ℕ → ℕ → Tables → Step (Option Rows)
-  read_bucket_array zero n t = done (none, t)
+  read_bucket_array zero n t = done (None, t)
   read_bucket_array (suc a) n t = do
     r ← read_as buckets (suc a) t
     buckets_from (suc a) n t r
@@ -142,21 +142,21 @@ module _ (sec : Section) (room : Room) where
   -- ---- bones
 
   unfoldable pub name_from : ℕ → Tables → Option Rows → Step (Option Place)
-  name_from va t (some s) = done (some (record { address = s.first; size = s.count }), t)
-  name_from va t none = do
+  name_from va t (Some s) = done (Some (record { address = s.first; size = s.count }), t)
+  name_from va t None = do
     p ← name_at sec va
     t'' ← put room va string (rows p.address p.size) t
-    done (some p, t'')
+    done (Some p, t'')
 
   unfoldable pub read_name : ℕ → Tables → Step (Option Place)
-  read_name zero t = done (none, t)
+  read_name zero t = done (None, t)
   read_name (suc a) t = do
     r ← read_as string (suc a) t
     name_from (suc a) t r
 
   unfoldable pub bone_from : ℕ → Tables → Option Rows → Step ℕ
-  bone_from va t (some s) = done (s.first, t)
-  bone_from va t none = do
+  bone_from va t (Some s) = done (s.first, t)
+  bone_from va t None = do
     b ← part sec va 70
     (n, t'') ← read_name (name_field b) t
     u ← need 1 (ltb (length t''.bones) room.bones)
@@ -177,23 +177,23 @@ module _ (sec : Section) (room : Room) where
     read_bones n (va + 80) (add_member r t'')
 
   unfoldable pub block_from : ℕ → ℕ → Tables → Option Rows → Step (Option Rows)
-  block_from va n t (some s) = done (some s, t)
-  block_from va n t none = do
+  block_from va n t (Some s) = done (Some s, t)
+  block_from va n t None = do
     p ← cursor sec va
     t'' ← read_bones n (va + 16) t
     t''' ← put room va block (rows (length t.members) n) t''
-    done (some (rows (length t.members) n), t''')
+    done (Some (rows (length t.members) n), t''')
 
   -- the bones block
   unfoldable pub read_block : ℕ → ℕ → Tables → Step (Option Rows)
-  read_block zero n t = done (none, t)
+  read_block zero n t = done (None, t)
   read_block (suc a) n t = do
     r ← read_as block (suc a) t
     block_from (suc a) n t r
 
   -- from the pointer to the first bone
   unfoldable pub read_bones_at : ℕ → ℕ → Tables → Step (Option Rows)
-  read_bones_at zero n t = done (none, t)
+  read_bones_at zero n t = done (None, t)
   read_bones_at (suc a) n t = do
     u ← need 13 (leb 16 (suc a))
     read_block (suc a - 16) n t
@@ -233,17 +233,17 @@ module _ (sec : Section) (room : Room) where
   read_over_kind l va n string s t = read_new l va n t
 
   unfoldable pub list_from : ListTable → ℕ → ℕ → Tables → Option Pooled → Step (Option Rows)
-  list_from l va n t none = do
+  list_from l va n t None = do
     (r, t'') ← read_new l va n t
     t''' ← put room va (list l) r t''
-    done (some r, t''')
-  list_from l va n t (some p) = do
+    done (Some r, t''')
+  list_from l va n t (Some p) = do
     (r, t'') ← read_over_kind l va n p.kind p.stored t
-    done (some r, t'')
+    done (Some r, t'')
 
   -- `read_struct_array`
   unfoldable pub read_list : ListTable → ℕ → ℕ → Tables → Step (Option Rows)
-  read_list l zero n t = done (none, t)
+  read_list l zero n t = done (None, t)
   read_list l (suc a) n t = list_from l (suc a) n t (find (suc a) t.pool)
 
   -- ---- the skeleton
@@ -262,14 +262,14 @@ module _ (sec : Section) (room : Room) where
         done (s, add_skeleton s t7)
 
   unfoldable pub skeleton_from : ℕ → Tables → Option Rows → Step (Option SkeletonRow)
-  skeleton_from root t (some s) = done (some (get_or t.skeletons s.first no_skeleton), t)
-  skeleton_from root t none = do
+  skeleton_from root t (Some s) = done (Some (get_or t.skeletons s.first no_skeleton), t)
+  skeleton_from root t None = do
     (s, t'') ← read_new_skeleton root t
-    done (some s, t'')
+    done (Some s, t'')
 
   -- One reading, over the tables and the pool as other readings left them. Root 0 gives none.
   unfoldable pub read_skeleton : ℕ → Tables → Step (Option SkeletonRow)
-  read_skeleton zero t = done (none, t)
+  read_skeleton zero t = done (None, t)
   read_skeleton (suc a) t = do
     r ← read_as skeleton (suc a) t
     skeleton_from (suc a) t r

@@ -1,7 +1,7 @@
 -- Controls of reading (see `Controls`): halves and names, fields and their widths, the pool, bytes that must stand, the order, where
 -- 1 is met. Definitions only.
 use Rattle.std.specs.Prelude.{◌≡◌, ℕ, List, [], ◌∷◌, map, length, replicate}
-use Rattle.std.proofs.Math.Option.{Option, none, some}
+use Rattle.std.specs.Prelude.{Option, None, Some}
 use Rattle.format.specs.Result.{Res, refused, done}
 use Rattle.format.specs.Section.{Section, Place, part, name_at, name_bytes}
 use Rattle.format.specs.Bone.{Bone, words4}
@@ -30,21 +30,21 @@ abbrev pub room_with : (bones buckets entries inverse pool : ℕ) → Room
 room_with o b e i p = record { bones = o; buckets = b; entries = e; inverse = i; local = 800; parents = 800; children = 8192; pool = p }
 
 abbrev pub parents_read : Res (Option Read) → List ℕ
-parents_read (done (some r)) = r.parents
-parents_read (done none) = []
+parents_read (done (Some r)) = r.parents
+parents_read (done None) = []
 parents_read (refused n) = []
 
 -- the words of the inverse matrices read
 abbrev pub inverse_count : Res (Option Read) → ℕ
-inverse_count (done (some r)) = length r.inverse
-inverse_count (done none) = 0
+inverse_count (done (Some r)) = length r.inverse
+inverse_count (done None) = 0
 inverse_count (refused n) = 0
 
 -- the kind word, the free words and the stored counts of the skeleton read
 abbrev pub skeleton_fields : Res (Option SkeletonRow × Tables) → List ℕ
-skeleton_fields (done (some s, t)) =
+skeleton_fields (done (Some s, t)) =
     s.kind ∷ s.free.x ∷ s.free.y ∷ s.free.z ∷ s.free.w ∷ s.bucket_count ∷ s.bone_count ∷ s.child_count ∷ []
-skeleton_fields (done (none, t)) = []
+skeleton_fields (done (None, t)) = []
 skeleton_fields (refused n) = []
 
 -- flags, index, tag, next sibling and parent of each bone read
@@ -52,14 +52,14 @@ abbrev pub bone_fields : Bone Place → List ℕ
 bone_fields b = b.flags ∷ b.index ∷ b.tag ∷ b.next_sibling ∷ b.parent ∷ []
 
 abbrev pub fields_read : Res (Option Read) → List (List ℕ)
-fields_read (done (some r)) = map bone_fields r.bones
-fields_read (done none) = []
+fields_read (done (Some r)) = map bone_fields r.bones
+fields_read (done None) = []
 fields_read (refused n) = []
 
 -- the names of the bones read
 abbrev pub names_read : Res (Option (List NamedBone)) → List (Option Bytes)
-names_read (done (some bs)) = map (λ (b : NamedBone). b.name) bs
-names_read (done none) = []
+names_read (done (Some bs)) = map (λ (b : NamedBone). b.name) bs
+names_read (done None) = []
 names_read (refused n) = []
 
 pub record ReadingControls : Type 0 where
@@ -69,7 +69,7 @@ pub record ReadingControls : Type 0 where
   -- 60000001 hex is the second
   pub graphics_second : part (halves [] (1 ∷ 2 ∷ [])) 0x6000_0001 1 ≡ done (2 ∷ [])
   -- bone 0's name lies at the section's end: an empty name
-  pub name_at_end : check_with ((328, 176) ∷ (329, 3) ∷ []) ≡ done (some 3)
+  pub name_at_end : check_with ((328, 176) ∷ (329, 3) ∷ []) ≡ done (Some 3)
   -- a name of 300 bytes up to the end of its half
   pub long_name : name_at (halves (replicate 300 65) []) base ≡ done (place_at base 300)
   -- a place in neither half has no bytes
@@ -89,7 +89,7 @@ pub record ReadingControls : Type 0 where
       0x4061_3CA0 ∷ 1 ∷ 2 ∷ 3 ∷ 4 ∷ 11 ∷ 3 ∷ 8 ∷ []
   -- ---- the pool
   -- bone 2's name lies at bone 0's: a name that is read already is given again
-  pub shared_name : names_read (bones_back (control_with ((488, 0) ∷ (489, 2) ∷ []))) ≡ some (72 ∷ 101 ∷ []) ∷ none ∷ some (72 ∷ 101 ∷ []) ∷ []
+  pub shared_name : names_read (bones_back (control_with ((488, 0) ∷ (489, 2) ∷ []))) ≡ Some (72 ∷ 101 ∷ []) ∷ None ∷ Some (72 ∷ 101 ∷ []) ∷ []
   -- bone 0 lies at the first entry: the block is 16 bytes before it
   pub bone_at_entry : read_with ((32, 208) ∷ (33, 0) ∷ []) ≡ refused 12
   -- the names of bones 0 and 2 both lie at bone 0: read as a name, then as a bone, then asked for as a name
@@ -106,13 +106,13 @@ pub record ReadingControls : Type 0 where
   pub no_local : kept_read (read_with ((48, 0) ∷ (49, 0) ∷ (51, 0) ∷ (540, 7) ∷ [])) ≡ replicate 3 (words4 0 0 0 0)
   -- ---- what reading does not look at
   -- bone 0's second index
-  pub second_index : check_with ((342, 9) ∷ []) ≡ done (some 3)
+  pub second_index : check_with ((342, 9) ∷ []) ≡ done (Some 3)
   -- the skeleton's kind word
-  pub kind_word : check_with ((0, 1) ∷ []) ≡ done (some 3)
+  pub kind_word : check_with ((0, 1) ∷ []) ≡ done (Some 3)
   -- the 1.0 at 44 in bone 0
-  pub constant_at44 : check_with ((319, 0) ∷ []) ≡ done (some 3)
+  pub constant_at44 : check_with ((319, 0) ∷ []) ≡ done (Some 3)
   -- the count in the header of the bones block
-  pub block_count : check_with ((256, 9) ∷ []) ≡ done (some 3)
+  pub block_count : check_with ((256, 9) ∷ []) ≡ done (Some 3)
   -- ---- the bytes that must stand
   -- a bone needs 70 bytes of its 80: of one that has them the parents are missing
   pub bone70 : check_empty_with ((32, 42) ∷ (35, 80) ∷ (94, 1) ∷ []) ≡ refused 22
@@ -121,7 +121,7 @@ pub record ReadingControls : Type 0 where
   pub entry16 : check_empty_with ((16, 104) ∷ (19, 80) ∷ (24, 1) ∷ (104, 96) ∷ (107, 80) ∷ []) ≡ refused 21
   pub entry15 : check_empty_with ((16, 104) ∷ (19, 80) ∷ (24, 1) ∷ (104, 97) ∷ (107, 80) ∷ []) ≡ refused 11
   -- a block of no bones needs none, but a legal address: the section's end is one, and the next is not
-  pub empty_block : check_empty_with ((32, 128) ∷ (35, 80) ∷ []) ≡ done (some 0)
+  pub empty_block : check_empty_with ((32, 128) ∷ (35, 80) ∷ []) ≡ done (Some 0)
   pub block_past_end : check_empty_with ((32, 129) ∷ (35, 80) ∷ []) ≡ refused 11
   -- the bucket array begins 80 bytes before the section's end: all its 88 bytes must stand
   pub buckets_past_end : read_with ((16, 96) ∷ (17, 3) ∷ []) ≡ refused 11
@@ -152,12 +152,12 @@ pub record ReadingControls : Type 0 where
   -- 10 of the local pointer goes before 11 of the parents pointer
   pub local_before_parents : read_with ((51, 64) ∷ (58, 1) ∷ []) ≡ refused 10
   -- bone 0's name lies at the skeleton, which is pooled last
-  pub name_at_root : check_with ((328, 0) ∷ (329, 0) ∷ []) ≡ done (some 3)
+  pub name_at_root : check_with ((328, 0) ∷ (329, 0) ∷ []) ≡ done (Some 3)
   -- bone 0's name lies at the bones block, which is pooled behind its bones
-  pub name_at_block : check_with ((328, 0) ∷ (329, 1) ∷ []) ≡ done (some 3)
+  pub name_at_block : check_with ((328, 0) ∷ (329, 1) ∷ []) ≡ done (Some 3)
   -- the last entry links to the bucket array, which is pooled behind its chains: a chain too long
   pub link_at_buckets : check_with ((248, 112) ∷ (251, 80) ∷ []) ≡ refused 21
   -- the bones pointer is 16: no bones, and the matrices of three
   pub matrices_without_bones : inverse_count (read_with ((33, 0) ∷ (35, 0) ∷ [])) ≡ 48
   -- root 0
-  pub root_zero : read (control_with []) program_room 0 ≡ done none
+  pub root_zero : read (control_with []) program_room 0 ≡ done None

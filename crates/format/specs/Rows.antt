@@ -1,7 +1,7 @@
 -- How lent tables hold rows: words one behind the other, zeros behind the last row (docs/FORMAT.md: "result tables are zero past their
 -- rows"). A bone's row has no malformed state: each field has the width that its record gives it. Definitions only.
 use Rattle.std.specs.Prelude.{ℕ, zero, suc, ◌+◌, ◌-◌, ◌*◌, ◌/◌, ◌%◌, ◌^◌, length, get_or, drop, replicate}
-use Rattle.std.proofs.Math.Option.{Option, none, some}
+use Rattle.std.specs.Prelude.{Option, None, Some}
 use mathlib.Core.List.{List, [], ◌∷◌, ◌++◌, flat_map}
 use Rattle.format.specs.Section.{Place}
 use Rattle.format.specs.Bone.{Bone, words3, words4}
@@ -39,8 +39,8 @@ two_words v = v % 2 ^ 32 ∷ v / 2 ^ 32 ∷ []
 
 -- the words of a name's place: no name is address 0
 abbrev pub place_words : Option Place → List ℕ
-place_words none = 0 ∷ 0 ∷ 0 ∷ 0 ∷ []
-place_words (some p) = two_words p.address ++ two_words p.size
+place_words None = 0 ∷ 0 ∷ 0 ∷ 0 ∷ []
+place_words (Some p) = two_words p.address ++ two_words p.size
 
 abbrev pub bone_width : ℕ
 bone_width = 21
@@ -57,8 +57,8 @@ bone_words b =
 
 -- the place at an address of so many bytes; address 0 is no name, whatever the size
 unfoldable pub place_of : ℕ → ℕ → Option Place
-place_of zero n = none
-place_of (suc a) n = some (record { address = suc a; size = n })
+place_of zero n = None
+place_of (suc a) n = Some (record { address = suc a; size = n })
 
 -- The bone that a row holds, whatever its words. The upper half of word 12 is not looked at.
 unfoldable pub bone_of : List ℕ → Bone Place

@@ -1,7 +1,7 @@
 -- Controls of single fields and of the rows of lent tables (see `Controls`): where each number lies in a row is docs/FORMAT.md's "Rows of the
 -- lent tables". Definitions only.
 use Rattle.std.specs.Prelude.{◌≡◌, ℕ, List, [], ◌∷◌, map, ◌++◌}
-use Rattle.std.proofs.Math.Option.{some}
+use Rattle.std.specs.Prelude.{Some}
 use Rattle.format.specs.Field.{field_at, put_at}
 use Rattle.format.specs.Section.{Place}
 use Rattle.format.specs.Bone.{Bone, words3, words4}
@@ -21,7 +21,7 @@ row_bone =
       scale = words3 8 9 10;
       next_sibling = 11;
       parent = 12;
-      name = some (place_at 0x5_0000_0006 0x7_0000_0008);
+      name = Some (place_at 0x5_0000_0006 0x7_0000_0008);
       flags = 13;
       index = 14;
       tag = 15;

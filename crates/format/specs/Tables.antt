@@ -1,7 +1,7 @@
 -- What reading stores: the lent tables with the rows in them, and the pool (docs/FORMAT.md, "Finding bytes"). The pool serves any number of
 -- readings: nothing here knows how many have used it. Definitions only.
 use Rattle.std.specs.Prelude.{ℕ, Bool, cond, List, [], ◌∷◌, ◌++◌, length, take, drop, ltb, eqb}
-use Rattle.std.proofs.Math.Option.{Option, none, some}
+use Rattle.std.specs.Prelude.{Option, None, Some}
 use Rattle.format.specs.Result.{Res, done, ◌>>=◌, need}
 use Rattle.format.specs.Section.{Place}
 use Rattle.format.specs.Bone.{Bone, Words4}
@@ -40,8 +40,8 @@ pub record Rows : Type 0 where
 
 -- how many rows a part has; an absent part has none
 abbrev pub part_length : Option Rows → ℕ
-part_length none = 0
-part_length (some r) = r.count
+part_length None = 0
+part_length (Some r) = r.count
 
 abbrev pub rows : ℕ → ℕ → Rows
 rows f c = record { first = f; count = c }
@@ -194,8 +194,8 @@ list_room children_table r = r.children
 
 -- what was read at an address
 unfoldable pub find : ℕ → List Pooled → Option Pooled
-find va [] = none
-find va (p ∷ ps) = cond (eqb p.address va) (some p) (find va ps)
+find va [] = None
+find va (p ∷ ps) = cond (eqb p.address va) (Some p) (find va ps)
 
 -- a later row at the same address replaces the earlier
 unfoldable pub replace : Pooled → List Pooled → List Pooled
@@ -204,8 +204,8 @@ replace q (p ∷ ps) = cond (eqb p.address q.address) (q ∷ ps) (p ∷ replace 
 
 -- a row of the pool, by what was found at its address: only a new address takes a new row
 unfoldable pub put_over : Room → Pooled → Tables → Option Pooled → Res Tables
-put_over room q t (some p) = done (with_pool (replace q t.pool) t)
-put_over room q t none = do
+put_over room q t (Some p) = done (with_pool (replace q t.pool) t)
+put_over room q t None = do
   u ← need 1 (ltb (length t.pool) room.pool)
   done (with_pool (t.pool ++ (q ∷ [])) t)
 
@@ -214,10 +214,10 @@ put room va k r t = put_over room (pooled va k r) t (find va t.pool)
 
 -- what was read at an address as a kind: none where nothing was, 12 where another kind was
 unfoldable pub as_kind : Kind → Option Pooled → Res (Option Rows)
-as_kind k none = done none
-as_kind k (some p) = do
+as_kind k None = done None
+as_kind k (Some p) = do
   u ← need 12 (same_kind p.kind k)
-  done (some p.stored)
+  done (Some p.stored)
 
 abbrev pub read_as : Kind → ℕ → Tables → Res (Option Rows)
 read_as k va t = as_kind k (find va t.pool)

@@ -2,7 +2,7 @@
 -- the Rust has not: it is that of docs/FORMAT.md, "Who can cause a refusal". Of 3 there is one case alone, since many bones take long to
 -- write. Definitions only.
 use Rattle.std.specs.Prelude.{◌≡◌, ℕ, true, false, List, [], ◌∷◌, map, replicate}
-use Rattle.std.proofs.Math.Option.{Option, none, some}
+use Rattle.std.specs.Prelude.{Option, None, Some}
 use Rattle.format.specs.Result.{refused, done}
 use Rattle.format.specs.Field.{field}
 use Rattle.format.specs.Section.{Place}
@@ -44,7 +44,7 @@ indexed i p =
       scale = words3 0x3F80_0000 0x3F80_0000 0x3F80_0000;
       next_sibling = minus_one;
       parent = p;
-      name = none;
+      name = None;
       flags = 0;
       index = i;
       tag = 0;
@@ -63,19 +63,19 @@ pub record WritingControls : Type 0 where
   -- names of 255 bytes, of 256, and with a zero byte
   pub longest_name : map good_bytes ((replicate 255 65) ∷ (replicate 256 65) ∷ (65 ∷ 0 ∷ []) ∷ []) ≡ true ∷ false ∷ false ∷ []
   -- 65,536 bones: 2 goes before 4; 65,535 are not too many
-  pub two_before_four : written (halves [] []) no_deriving 0 (replicate 65536 (placed_bone (some (place_at 0x7000_0000 1)))) no_free ≡ refused 2
-  pub most_bones : written (halves [] []) no_deriving 0 (replicate 65535 (placed_bone none)) no_free ≡ refused 1
+  pub two_before_four : written (halves [] []) no_deriving 0 (replicate 65536 (placed_bone (Some (place_at 0x7000_0000 1)))) no_free ≡ refused 2
+  pub most_bones : written (halves [] []) no_deriving 0 (replicate 65535 (placed_bone None)) no_free ≡ refused 1
   -- a name in neither half: 4 goes before 1
-  pub four_before_one : written (halves [] []) no_deriving 0 (placed_bone (some (place_at 0x7000_0000 1)) ∷ []) no_free ≡ refused 4
+  pub four_before_one : written (halves [] []) no_deriving 0 (placed_bone (Some (place_at 0x7000_0000 1)) ∷ []) no_free ≡ refused 4
   -- the second of two bones has a name in neither half
   pub second_name :
-      written (halves [] []) program_derive_room 10000 (placed_bone none ∷ placed_bone (some (place_at 0x7000_0000 1)) ∷ []) no_free ≡ refused 4
+      written (halves [] []) program_derive_room 10000 (placed_bone None ∷ placed_bone (Some (place_at 0x7000_0000 1)) ∷ []) no_free ≡ refused 4
   -- no tables and no buffer: 1 goes before 5
-  pub one_before_five : written (halves [] []) no_deriving 0 (placed_bone none ∷ []) no_free ≡ refused 1
+  pub one_before_five : written (halves [] []) no_deriving 0 (placed_bone None ∷ []) no_free ≡ refused 1
   -- 65,536 child entries and no buffer: 3 goes before 5
   pub three_before_five :
       written (halves [] []) (lent_rows 13297 8191 8191 8191 8191 65536 32768) 0 many_children no_free ≡ refused 3
   -- one root wants 352 bytes, and is written into just so many
   pub just_fits :
-      written (halves [] []) program_derive_room 352 (placed_bone none ∷ []) no_free ≡ done (layout (plain minus_one 0 0 ∷ []) no_free)
-  pub five : written (halves [] []) program_derive_room 351 (placed_bone none ∷ []) no_free ≡ refused 5
+      written (halves [] []) program_derive_room 352 (placed_bone None ∷ []) no_free ≡ done (layout (plain minus_one 0 0 ∷ []) no_free)
+  pub five : written (halves [] []) program_derive_room 351 (placed_bone None ∷ []) no_free ≡ refused 5

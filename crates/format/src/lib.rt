@@ -170,66 +170,50 @@ pub struct Place {
     pub size: u64,
 }
 
-// Why a call refuses. The comment gives its number, who causes it, and when (docs/FORMAT.md, "Who can cause a refusal").
-#[derive(Clone, Copy)]
+// Why a call refuses, by its number. The comment tells who causes it, and when (docs/FORMAT.md, "Who can cause a refusal").
+#[derive(Clone, Copy, Debug, PartialEq, Eq)]
 pub enum Refusal {
-    // 1, the caller: a lent table is too short.
-    TableTooShort,
-    // 2, whoever made the bones: more than 65,535 of them.
-    TooManyBones,
-    // 3, whoever made the bones: more than 65,535 child entries, in writing only.
-    TooManyChildren,
-    // 4, whoever made the bones: a name over 255 bytes, holding a zero byte or not lying in the lent name bytes, in writing only.
-    BadName,
-    // 5, the caller: the output buffer is shorter than the section or the record to write.
-    BufferTooShort,
-    // 6, whoever made the limits: more than 65,535 in either list.
-    TooManyLimits,
-    // 10, whoever wrote the section: an address not 0 that is in neither half.
-    BadAddress,
-    // 11, whoever wrote the section: an address past its half's end, or fields or an array running past it.
-    PastTheEnd,
-    // 12, whoever wrote the section: an address already read as another kind.
-    OtherKind,
-    // 13, whoever wrote the section: a bones pointer from 1 to 15.
-    BonesPointer,
-    // 14, whoever wrote the section, lookup only: a chain too long.
-    ChainTooLong,
-    // 21, whoever derived the tables, check only: the chains.
-    Chains,
-    // 22, likewise: the parents.
-    Parents,
-    // 23, likewise: the children.
-    Children,
-    // 24, likewise: the inverse matrices.
-    Inverse,
-    // 25, likewise: the local matrices.
-    Local,
-    // 35, whoever made the limits: the id of a rotation limit is above 65,535, in writing only.
-    BadLimitId,
+    // the caller: a lent table is too short.
+    TableTooShort = 1,
+    // whoever made the bones: more than 65,535 of them.
+    TooManyBones = 2,
+    // whoever made the bones: more than 65,535 child entries, in writing only.
+    TooManyChildren = 3,
+    // whoever made the bones: a name over 255 bytes, holding a zero byte or not lying in the lent name bytes, in writing only.
+    BadName = 4,
+    // the caller: the output buffer is shorter than the section or the record to write.
+    BufferTooShort = 5,
+    // whoever made the limits: more than 65,535 in either list.
+    TooManyLimits = 6,
+    // whoever wrote the section: an address not 0 that is in neither half.
+    BadAddress = 10,
+    // whoever wrote the section: an address past its half's end, or fields or an array running past it.
+    PastTheEnd = 11,
+    // whoever wrote the section: an address already read as another kind.
+    OtherKind = 12,
+    // whoever wrote the section: a bones pointer from 1 to 15.
+    BonesPointer = 13,
+    // whoever wrote the section, lookup only: a chain too long.
+    ChainTooLong = 14,
+    // whoever derived the tables, check only: the chains.
+    Chains = 21,
+    // likewise: the parents.
+    Parents = 22,
+    // likewise: the children.
+    Children = 23,
+    // likewise: the inverse matrices.
+    Inverse = 24,
+    // likewise: the local matrices.
+    Local = 25,
+    // whoever made the limits: the id of a rotation limit is above 65,535, in writing only.
+    BadLimitId = 35,
 }
 
 // The number of the refusal, in every list of them.
-pub fn code(r: Refusal) -> u32
-    ensures answer { result ≡ number r }
-{
-    match r {
-        Refusal::TableTooShort => 1,
-        Refusal::TooManyBones => 2,
-        Refusal::TooManyChildren => 3,
-        Refusal::BadName => 4,
-        Refusal::BufferTooShort => 5,
-        Refusal::TooManyLimits => 6,
-        Refusal::BadAddress => 10,
-        Refusal::PastTheEnd => 11,
-        Refusal::OtherKind => 12,
-        Refusal::BonesPointer => 13,
-        Refusal::ChainTooLong => 14,
-        Refusal::Chains => 21,
-        Refusal::Parents => 22,
-        Refusal::Children => 23,
-        Refusal::Inverse => 24,
-        Refusal::Local => 25,
-        Refusal::BadLimitId => 35,
+impl From<Refusal> for u32 {
+    ghost from_gives = { λ r n. n ≡ number r };
+
+    fn from(r: Refusal) -> u32 {
+        r as u32
     }
 }

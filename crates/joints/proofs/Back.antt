@@ -1,7 +1,7 @@
 -- A written section reads back (docs/FORMAT.md, "Joints and names"). In order: bytes in the system half; fields of a laid record; one list
 -- of either kind; the theorem. Assumes nothing.
 use mathlib.Core.Path.{◌≡◌, refl, sym, ap, ◌∙◌}
-use mathlib.Core.Option.{some}
+use Rattle.std.specs.Prelude.{Some}
 use mathlib.Core.List.{List, [], ◌∷◌, ◌++◌, map, flat_map, append-nil, append_assoc}
 use Prim.Native.Nat.{ℕ, suc, ◌+◌, ◌*◌, ◌/◌, ◌%◌, ◌^◌, ◌≤◌, ◌<◌}
 use native.Mathlib.Nat.{mul-zero, mul-suc, mul_assoc, mod-eq_of_lt}
@@ -89,7 +89,7 @@ module _ {L : Type 0} (slots : L → List ℕ) (limit : List ℕ → L) (k : ℕ
   -- what is read of them
   pub mapped-back : (ls : List L) → EachBack ls → mapped limit (standing (map slots ls)) ≡ standing ls
   mapped-back [] f = refl
-  mapped-back (l ∷ ls) f = ap some (all_back (l ∷ ls) f)
+  mapped-back (l ∷ ls) f = ap Some (all_back (l ∷ ls) f)
     where
       all_back : (ls : List L) → EachBack ls → map limit (map slots ls) ≡ ls
       all_back [] f = refl
@@ -99,7 +99,7 @@ module _ {L : Type 0} (slots : L → List ℕ) (limit : List ℕ → L) (k : ℕ
       (room : ℕ) (ls : List L) (rest : List ℕ) →
       EachBack ls →
       length ls ≤ room →
-      records_taken room k (length ls) (word_bytes 4 (flat_map slots ls) ++ rest) ≡ done (some (map slots ls))
+      records_taken room k (length ls) (word_bytes 4 (flat_map slots ls) ++ rest) ≡ done (Some (map slots ls))
   unfolding records_taken
   taken_back room ls rest f h =
       let w : words 4 (k * length ls) (word_bytes 4 (flat_map slots ls) ++ rest) ≡ flat_map slots ls =
@@ -230,7 +230,7 @@ module _
           rotation_count = length rs;
           translation_count = length ts;
         })
-        ≡ done (some (joints_of rs ts))
+        ≡ done (Some (joints_of rs ts))
     unfolding lists_read
     lists_back =
         rw (
@@ -240,7 +240,7 @@ module _
           mapped-back translation_slots translation_limit 16 ts fit-t,
         ) refl
 
-    pub joints_back : read_joints whole rroom troom base ≡ done (some (joints_of rs ts))
+    pub joints_back : read_joints whole rroom troom base ≡ done (Some (joints_of rs ts))
     joints_back =
         let size : 64 ≤ length (joints_layout rs ts) =
         rw laid_in (simp (length-append, length-header) (omega arith)) in

@@ -3,7 +3,7 @@
 use mathlib.Core.Path.{◌≡◌, refl, sym, ap, ◌∙◌}
 use mathlib.Core.Bool.{Bool, true, false, ◌&&◌}
 use mathlib.Core.Logic.{◌⊎◌, inl, inr}
-use mathlib.Core.Option.{some}
+use Rattle.std.specs.Prelude.{Some}
 use mathlib.Core.List.{List, [], ◌∷◌, ◌++◌}
 use Prim.Native.Nat.{ℕ, zero, suc, ◌+◌, ◌*◌, ◌/◌, ◌^◌, ◌≤◌, ◌<◌}
 use native.Mathlib.Nat.{mul_comm, le-div_iff_mul-le}
@@ -247,7 +247,7 @@ module _ (rotation : List ℕ) (r : ℕ) (translation : List ℕ) (t : ℕ) (out
   pub joints_calls_lem :
       (n : ℕ) {out' : List ℕ} → ((i : ℕ) → get_or rotation i 0 < 2 ^ 32) → ((i : ℕ) → get_or translation i 0 < 2 ^ 32) →
       done n ≡ size_of wrote → out' ≡ left_in wrote out → (gfx rt₀ st₀ : List ℕ) → 49 * r ≤ length rt₀ → 16 * t ≤ length st₀ →
-      table_read (take n out') gfx base rt₀ st₀ ≡ done (some (joints_of (rotations_of r rotation) (translations_of t translation)))
+      table_read (take n out') gfx base rt₀ st₀ ≡ done (Some (joints_of (rotations_of r rotation) (translations_of t translation)))
   joints_calls_lem n {out'} fr ft e o gfx rt₀ st₀ hr ht =
       let p = passed-all n e in
       let nr = length-rotations_of r rotation in

@@ -1,7 +1,7 @@
 -- Finding the record and one list of limits (docs/FORMAT.md, "Joints and names"). In order: the fields of a record; the ways out of
 -- `find_record`; `limits` by its pointer and count; the ways out of a stage. Assumes nothing.
 use mathlib.Core.Path.{◌≡◌, refl, sym, ◌∙◌}
-use mathlib.Core.Option.{Option, none, some}
+use Rattle.std.specs.Prelude.{Option, None, Some}
 use mathlib.Core.List.{List, [], flat_map}
 use Prim.Native.Nat.{ℕ, zero, suc, ◌+◌, ◌-◌, ◌*◌, ◌/◌, ◌^◌, ◌≤◌, ◌<◌}
 use native.Mathlib.Nat.{add-zero, mul-zero, mul_comm, mul_assoc, sub-zero, mul-le-mul_right, le-div_iff_mul-le}
@@ -90,7 +90,7 @@ unfolding array
 array-part sec va zero h = absurd (h refl)
 array-part sec va (suc n) h = refl
 
-pub limits_absent : (sec : Section) (room k n : ℕ) {va : ℕ} → va ≡ 0 → limits sec room k va n ≡ done none
+pub limits_absent : (sec : Section) (room k n : ℕ) {va : ℕ} → va ≡ 0 → limits sec room k va n ≡ done None
 unfolding limits
 limits_absent sec room k n e = rw e refl
 
@@ -99,13 +99,13 @@ limits-stand :
     (sec : Section) (room k va n : ℕ) →
     (va ≡ 0 → ⊥) →
     limits sec room k va n
-    ≡ (array sec va (4 * k * n) >>= λ b. need 1 (leb n room) >>= λ u. done (some (limit_rows k n (words 4 (k * n) b))))
+    ≡ (array sec va (4 * k * n) >>= λ b. need 1 (leb n room) >>= λ u. done (Some (limit_rows k n (words 4 (k * n) b))))
 unfolding limits
 limits-stand sec room k zero n h = absurd (h refl)
 limits-stand sec room k (suc a) n h = refl
 
 -- a count of 0: the address is not looked at
-pub limits_empty : (sec : Section) (room k va n : ℕ) → (va ≡ 0 → ⊥) → n ≡ 0 → limits sec room k va n ≡ done (some [])
+pub limits_empty : (sec : Section) (room k va n : ℕ) → (va ≡ 0 → ⊥) → n ≡ 0 → limits sec room k va n ≡ done (Some [])
 unfolding array limit_rows
 limits_empty sec room k va n h e =
     limits-stand sec room k va n h ∙ rw (e, mul-zero (4 * k), le-leb 0 room (omega arith)) refl
@@ -150,10 +150,10 @@ zeros_laid : {t : List ℕ} → t ≡ cleared (length t) → t ≡ laid [] (leng
 zeros_laid {t} e = e ∙ simp sub-zero
 
 module _ {f : List ℕ → List ℕ} {g : Res (Option (List (List ℕ)))} {t : List ℕ} (zero : t ≡ cleared (length t)) where
-  pub stage_absent : g ≡ done none → Stage f g Done t t
+  pub stage_absent : g ≡ done None → Stage f g Done t t
   stage_absent e = rw e (record { answer = refl; table = zeros_laid zero })
 
-  pub stage_empty : g ≡ done (some []) → Stage f g Done t t
+  pub stage_empty : g ≡ done (Some []) → Stage f g Done t t
   unfolding flat_map
   stage_empty e = rw e (record { answer = refl; table = zeros_laid zero })
 

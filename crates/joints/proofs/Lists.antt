@@ -3,7 +3,7 @@
 -- an answer of a stage tells; the ways out of `read_lists` and of `read`. Assumes nothing.
 use mathlib.Core.Path.{◌≡◌, refl, sym, ap, ◌∙◌}
 use mathlib.Core.Bool.{Bool, true, false}
-use mathlib.Core.Option.{Option, none, some}
+use Rattle.std.specs.Prelude.{Option, None, Some}
 use mathlib.Core.List.{List, [], ◌∷◌, ◌++◌, map, flat_map, append_assoc}
 use Prim.Native.Nat.{ℕ, zero, suc, ◌+◌, ◌*◌, ◌/◌, ◌%◌, ◌≤◌}
 use native.Mathlib.Nat.{mul-suc, sub-zero}
@@ -79,8 +79,8 @@ translation_back_lem w e = rw (take_all 9 (others 5 1 w) (omega (arith, length-o
 module _ (k n : ℕ) {rs : Option (List (List ℕ))} where
   found_by :
       (g : Res (List ℕ)) (q : Bool) →
-      (g >>= λ b. need 1 q >>= λ u. done (some (limit_rows k n (words 4 (k * n) b)))) ≡ done rs →
-      (b : List ℕ) × (rs ≡ some (limit_rows k n (words 4 (k * n) b)))
+      (g >>= λ b. need 1 q >>= λ u. done (Some (limit_rows k n (words 4 (k * n) b)))) ≡ done rs →
+      (b : List ℕ) × (rs ≡ Some (limit_rows k n (words 4 (k * n) b)))
   found_by (refused c) q e = let z : ◌≡◌ {A = ℕ} 0 1 = cc in absurd (omega arith)
   found_by (done b) true e = (b, cc)
   found_by (done b) false e = let z : ◌≡◌ {A = ℕ} 0 1 = cc in absurd (omega arith)
@@ -95,14 +95,14 @@ module _ {L : Type 0} (kind : LimitKind) (row limit : List ℕ → L)
       t ≡ laid (table_of (row_of kind) (done rs)) m →
       limits_in (λ m. map row (limit_rows (width_of kind) m t)) (limits_at va n) ≡ mapped limit rs
   unfolding limits limits_at
-  list_given_lem zero n {rs} m e f = let z : rs ≡ none = cc in rw z refl
+  list_given_lem zero n {rs} m e f = let z : rs ≡ None = cc in rw z refl
   list_given_lem (suc a) n {rs} {t} m e f =
       let k : ℕ = slots_of kind in
       let b = found_by k n (array sec (suc a) (4 * k * n)) (leb n room) e in
       let w : List ℕ = words 4 (k * n) b.0 in
       let size : k * n ≤ length w = rw (length-words 4 (k * n) b.0) (omega arith) in
       let l : t ≡ laid (flat_map (row_of kind) (limit_rows k n w)) m = rw b.1 at f in
-      rw (b.1, l) (ap some (rows_back kind row limit back n w _ size))
+      rw (b.1, l) (ap Some (rows_back kind row limit back n w _ size))
 
 -- ---- what an answer of a stage tells
 
@@ -147,8 +147,8 @@ words-given :
     ((w : List ℕ) → f (limit w) ≡ g w) →
     (rs : Option (List (List ℕ))) →
     table_of g (done rs) ≡ words_of f (mapped limit rs)
-words-given f limit g e none = refl
-words-given f limit g e (some l) = sym (flat_map-map f limit g e l)
+words-given f limit g e None = refl
+words-given f limit g e (Some l) = sym (flat_map-map f limit g e l)
 
 pub cleared_again : {t : List ℕ} (n : ℕ) → t ≡ cleared n → t ≡ cleared (length t)
 cleared_again n e = let l = ap length e ∙ length-replicate n 0 in rw l e
@@ -252,7 +252,7 @@ module _ (sec : Section) (rroom troom root : ℕ) (h : root ≡ 0 → ⊥) where
       {y : Found} (x : Refusal) → FindsRecord sec root y → y ≡ no_record x → read_joints sec rroom troom root ≡ refused (number x)
   read-refused x f i = read_answered f ∙ ap (λ (y : Found). meant_record y >>= lists) i
 
-pub read-nothing : (sec : Section) (rroom troom : ℕ) {root : ℕ} → root ≡ 0 → read_joints sec rroom troom root ≡ done none
+pub read-nothing : (sec : Section) (rroom troom : ℕ) {root : ℕ} → root ≡ 0 → read_joints sec rroom troom root ≡ done None
 unfolding read_joints
 read-nothing sec rroom troom e = rw e refl
 
@@ -273,7 +273,7 @@ module _ {w : Res (Option Joints)} {rt₀ st₀ rt st : List ℕ} where
         translation = rw es (cleared-laid (length st₀) zs);
       }
 
-  pub reads_nothing : w ≡ done none → rt ≡ cleared (length rt₀) → st ≡ cleared (length st₀) → ReadsJoints w Nothing rt₀ st₀ rt st
+  pub reads_nothing : w ≡ done None → rt ≡ cleared (length rt₀) → st ≡ cleared (length st₀) → ReadsJoints w Nothing rt₀ st₀ rt st
   reads_nothing e = reads_none Nothing (sym e) (rw e refl) (rw e refl)
 
   pub reads-refused :

@@ -20,7 +20,7 @@ use Rattle.fields.proofs.WordLists.{length-words}
 use Rattle.tables.specs.Outcome.{size_of}
 use Rattle.joints.specs.Reading.{whether}
 use Rattle.joints.specs.Written.{rotations_of, translations_of, table_written, left_in}
-use Rattle.joints.specs.OneWidth.{Some, OneWidth, OneWidthCases}
+use Rattle.joints.specs.OneWidth.{AnyOf, OneWidth, OneWidthCases}
 use Rattle.joints.proofs.BothKinds.{length-rotations_of, length-translations_of}
 use Rattle.joints.proofs.Lists.{rotation_back_lem, translation_back_lem}
 use Rattle.joints.proofs.Codecs.{rotation-store-load, translation-store-load, rotation-load-store, translation-load-store}
@@ -30,18 +30,18 @@ use Rattle.joints.proofs.CallsBack.{translation-read-written, joints_calls_lem}
 
 -- ---- the refusals
 
-ids_some : (rs : List RotationLimit) → ids_fit rs ≡ false → Some (λ l. 65535 < l.id) rs
+ids_some : (rs : List RotationLimit) → ids_fit rs ≡ false → AnyOf (λ l. 65535 < l.id) rs
 unfolding ids_fit
 ids_some [] e = let z : ◌≡◌ {A = ℕ} 0 1 = cc e in absurd (omega arith)
 ids_some (l ∷ rs) e = by (leb l.id 65535) refl e (ids_some rs)
   where
     by :
-        (q : Bool) → leb l.id 65535 ≡ q → (q && ids_fit rs) ≡ false → (ids_fit rs ≡ false → Some (λ l. 65535 < l.id) rs) →
-        (65535 < l.id) ⊎ Some (λ l. 65535 < l.id) rs
+        (q : Bool) → leb l.id 65535 ≡ q → (q && ids_fit rs) ≡ false → (ids_fit rs ≡ false → AnyOf (λ l. 65535 < l.id) rs) →
+        (65535 < l.id) ⊎ AnyOf (λ l. 65535 < l.id) rs
     by true h e more = inr (more e)
     by false h e more = inl (leb-false l.id 65535 h)
 
-some_ids : (rs : List RotationLimit) → Some (λ l. 65535 < l.id) rs → ids_fit rs ≡ false
+some_ids : (rs : List RotationLimit) → AnyOf (λ l. 65535 < l.id) rs → ids_fit rs ≡ false
 unfolding ids_fit
 some_ids [] s = absurd s
 some_ids (l ∷ rs) (inl h) = rw (lt-leb l.id 65535 h) refl
@@ -65,7 +65,7 @@ module _ (size : ℕ) (rs : List RotationLimit) (ts : List TranslationLimit) whe
   unfolding joints_written
   after_six hr ht = rw (le-leb (length rs) 65535 hr, le-leb (length ts) 65535 ht) refl
 
-  wide_refused_lem : length rs ≤ 65535 → length ts ≤ 65535 → (joints_written size rs ts ≡ refused 35) ↔ Some (λ l. 65535 < l.id) rs
+  wide_refused_lem : length rs ≤ 65535 → length ts ≤ 65535 → (joints_written size rs ts ≡ refused 35) ↔ AnyOf (λ l. 65535 < l.id) rs
   wide_refused_lem hr ht = (
     λ e.
         ids_some rs
@@ -123,7 +123,7 @@ module _ (rotation : List ℕ) (r : ℕ) (translation : List ℕ) (t : ℕ) (out
 
   wide_calls_lem :
       {out' : List ℕ} {a : Res ℕ} → a ≡ size_of whole → out' ≡ left_in whole out →
-      ((a ≡ refused 35) ↔ Some (λ l. 65535 < l.id) (rotations_of r rotation)) × (a ≡ refused 35 → out' ≡ out)
+      ((a ≡ refused 35) ↔ AnyOf (λ l. 65535 < l.id) (rotations_of r rotation)) × (a ≡ refused 35 → out' ≡ out)
   wide_calls_lem e o =
       let rs : List RotationLimit = rotations_of r rotation in
       let ts : List TranslationLimit = translations_of t translation in

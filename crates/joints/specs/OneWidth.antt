@@ -1,7 +1,7 @@
 -- Request A7, "One width for limit ids" (docs/changes/A7.md): what was asked, of the definitions and of the calls. A call is taken by its
 -- contract: what it is lent, answers and leaves. `proofs/OneWidth.antt` proves it, with cases that each premise is needed. Definitions only.
 use Rattle.std.specs.Prelude.{◌≡◌, ◌↔◌, ◌⊎◌, List, [], ◌∷◌, ◌++◌, ℕ, ◌*◌, ◌^◌, ◌≤◌, ◌<◌, length, get_or, take, drop}
-use Rattle.std.proofs.Math.Option.{Option, none, some}
+use Rattle.std.specs.Prelude.{Option, None, Some}
 use Rattle.format.specs.Result.{refused, done}
 use Rattle.format.specs.Field.{Each, words, word_bytes}
 use Rattle.format.specs.Section.{Section}
@@ -29,16 +29,16 @@ pub record GoodTranslation (l : TranslationLimit) : Type 0 where
   pub others : length l.other ≡ 9
 
 -- one of a list
-abbrev pub Some : {A : Type 0} → (A → Type 0) → List A → Type 0
-Some P [] = ⊥
-Some P (x ∷ xs) = P x ⊎ Some P xs
+abbrev pub AnyOf : {A : Type 0} → (A → Type 0) → List A → Type 0
+AnyOf P [] = ⊥
+AnyOf P (x ∷ xs) = P x ⊎ AnyOf P xs
 
 -- ---- what a section of written limits reads as
 
 -- an empty list does not stand
 abbrev pub standing : {A : Type 0} → List A → Option (List A)
-standing [] = none
-standing (x ∷ l) = some (x ∷ l)
+standing [] = None
+standing (x ∷ l) = Some (x ∷ l)
 
 abbrev pub joints_of : List RotationLimit → List TranslationLimit → Joints
 joints_of rs ts =
@@ -86,11 +86,11 @@ pub record OneWidth : Type 0 where
       out' ≡ left_in (table_written (length out) rotation r translation t) out →
       (graphics rotation₀ translation₀ : List ℕ) → rotation_width * r ≤ length rotation₀ → translation_width * t ≤ length translation₀ →
       table_read (take n out') graphics base rotation₀ translation₀ ≡
-      done (some (joints_of (rotations_of r rotation) (translations_of t translation)))
+      done (Some (joints_of (rotations_of r rotation) (translations_of t translation)))
   -- "35, writing a rotation limit whose id is above 65,535": exactly then, whatever the buffer and the other list; 6 goes before it
   pub wide_refused :
       (size : ℕ) (rs : List RotationLimit) (ts : List TranslationLimit) → length rs ≤ 65535 → length ts ≤ 65535 →
-      (joints_written size rs ts ≡ refused 35) ↔ Some (λ l. 65535 < l.id) rs
+      (joints_written size rs ts ≡ refused 35) ↔ AnyOf (λ l. 65535 < l.id) rs
   pub six_first :
       (size : ℕ) (rs : List RotationLimit) (ts : List TranslationLimit) → (65535 < length rs) ⊎ (65535 < length ts) →
       joints_written size rs ts ≡ refused 6
@@ -101,7 +101,7 @@ pub record OneWidth : Type 0 where
       rotation_width * r ≤ length rotation → translation_width * t ≤ length translation →
       meant_written a ≡ size_of (table_written (length out) rotation r translation t) →
       out' ≡ left_in (table_written (length out) rotation r translation t) out →
-      ((meant_written a ≡ refused 35) ↔ Some (λ l. 65535 < l.id) (rotations_of r rotation)) × (meant_written a ≡ refused 35 → out' ≡ out)
+      ((meant_written a ≡ refused 35) ↔ AnyOf (λ l. 65535 < l.id) (rotations_of r rotation)) × (meant_written a ≡ refused 35 → out' ≡ out)
   pub wide_record_calls :
       (row out out' : List ℕ) (a : RecordWritten) →
       meant_record_written a ≡ whether (rotation_written (length out) (rotation_row row)) →
@@ -131,7 +131,7 @@ pub record OneWidthCases : Type 0 where
   pub fresh_good : GoodRotation (fresh_with 31086 9)
   pub fresh_again : rotation_limit (rotation_slots (fresh_with 31086 9)) ≡ fresh_with 31086 9
   pub fresh_read :
-      read_joints (alone (joints_layout (fresh_with 31086 9 ∷ []) [])) 1 0 base ≡ done (some (joints_of (fresh_with 31086 9 ∷ []) []))
+      read_joints (alone (joints_layout (fresh_with 31086 9 ∷ []) [])) 1 0 base ≡ done (Some (joints_of (fresh_with 31086 9 ∷ []) []))
   -- an id of 65,536 would be read as 0, and a second number of 65,536 too, from a record and from a row
   pub wide_lost : (rotation_limit (rotation_slots (fresh_with 65536 9))).id ≡ 0
   pub second_lost : (rotation_limit (rotation_slots (fresh_with 31086 65536))).second ≡ 0

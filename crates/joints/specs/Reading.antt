@@ -1,7 +1,7 @@
 -- What reading joints answers, and what it leaves in the two tables (docs/FORMAT.md, "Joints and names"). In order: the record; one
 -- list; both lists; the answer. Definitions only.
 use Rattle.std.specs.Prelude.{ℕ, zero, suc, ◌*◌, ◌/◌, ◌≡◌, leb, length}
-use Rattle.std.proofs.Math.Option.{Option, none, some}
+use Rattle.std.specs.Prelude.{Option, None, Some}
 use mathlib.Core.List.{List, [], flat_map}
 use Rattle.format.specs.Result.{Res, refused, done, ◌>>=◌, need}
 use Rattle.format.specs.Refusal.{number}
@@ -50,7 +50,7 @@ pub record FindsRecord (s : Section) (root : ℕ) (r : Found) : Type 0 where
 unfoldable pub records_taken : ℕ → ℕ → ℕ → List ℕ → Res (Option (List (List ℕ)))
 records_taken room k n s = do
   u ← need 1 (leb n room)
-  done (some (limit_rows k n (words 4 (k * n) s)))
+  done (Some (limit_rows k n (words 4 (k * n) s)))
 
 -- whether it is read, or the refusal's number
 abbrev pub meant_step : Step → Res (Unit {0})
@@ -64,8 +64,8 @@ whether (done a) = done tt
 -- the words of the rows, where f is the row of a record
 abbrev pub table_of : (List ℕ → List ℕ) → Res (Option (List (List ℕ))) → List ℕ
 table_of f (refused n) = []
-table_of f (done none) = []
-table_of f (done (some l)) = flat_map f l
+table_of f (done None) = []
+table_of f (done (Some l)) = flat_map f l
 
 -- what a stage that finds g promises
 pub record Stage (f : List ℕ → List ℕ) (g : Res (Option (List (List ℕ)))) (r : Step) (t₀ t : List ℕ) : Type 0 where
@@ -74,13 +74,13 @@ pub record Stage (f : List ℕ → List ℕ) (g : Res (Option (List (List ℕ)))
 
 -- how many limits a list has, or none where it is absent
 abbrev pub meant_list : LimitList → Option ℕ
-meant_list Absent = none
-meant_list (Of n) = some n
+meant_list Absent = None
+meant_list (Of n) = Some n
 
 -- the same by its pointer and its count
 unfoldable pub limits_at : ℕ → ℕ → Option ℕ
-limits_at zero n = none
-limits_at (suc a) n = some n
+limits_at zero n = None
+limits_at (suc a) n = Some n
 
 -- ---- both lists
 
@@ -90,7 +90,7 @@ lists_read s rroom troom h = do
   rs ← limits s rroom 48 h.rotation h.rotation_count
   ts ← limits s troom 16 h.translation h.translation_count
   done
-      (some
+      (Some
       (record {
         kind = h.kind;
         rotation_count = h.rotation_count;
@@ -108,15 +108,15 @@ table_read sys gfx root rotation translation =
 
 -- the limits of a list that has so many, where f gives those in the first rows of its table
 abbrev pub limits_in : {A : Type 0} → (ℕ → List A) → Option ℕ → Option (List A)
-limits_in f none = none
-limits_in f (some n) = some (f n)
+limits_in f None = None
+limits_in f (Some n) = Some (f n)
 
 -- the joints of an answer and of the two tables behind it, none, or the refusal's number
 abbrev pub meant_joints : JointsRead → List ℕ → List ℕ → Res (Option Joints.Joints)
-meant_joints Nothing rotation translation = done none
+meant_joints Nothing rotation translation = done None
 meant_joints (Read j) rotation translation =
     done
-    (some
+    (Some
     (record {
       kind = j.kind;
       rotation_count = j.rotation_count;
@@ -128,19 +128,19 @@ meant_joints (Refused r) rotation translation = refused (number r)
 
 -- the words of the rows of a list of limits
 abbrev pub words_of : {A : Type 0} → (A → List ℕ) → Option (List A) → List ℕ
-words_of f none = []
-words_of f (some l) = flat_map f l
+words_of f None = []
+words_of f (Some l) = flat_map f l
 
 -- what stands in front of the zeros of each table
 abbrev pub rotation_table : Res (Option Joints.Joints) → List ℕ
 rotation_table (refused n) = []
-rotation_table (done none) = []
-rotation_table (done (some j)) = words_of rotation_words j.rotation
+rotation_table (done None) = []
+rotation_table (done (Some j)) = words_of rotation_words j.rotation
 
 abbrev pub translation_table : Res (Option Joints.Joints) → List ℕ
 translation_table (refused n) = []
-translation_table (done none) = []
-translation_table (done (some j)) = words_of translation_words j.translation
+translation_table (done None) = []
+translation_table (done (Some j)) = words_of translation_words j.translation
 
 -- what a reading of w promises
 pub record ReadsJoints (w : Res (Option Joints.Joints)) (r : JointsRead) (rt₀ st₀ rt st : List ℕ) : Type 0 where

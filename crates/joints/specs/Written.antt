@@ -44,7 +44,7 @@ left_in (done b) out = b ++ drop (length b) out
 -- nothing is refused
 pub record LimitsRoom (rotation : List ℕ) (r : ℕ) (translation : List ℕ) (t : ℕ) (out : List ℕ) : Type 0 where
   pub few : r ≤ 65535
-  pub some : t ≤ 65535
+  pub Some : t ≤ 65535
   pub rotations : 49 * r ≤ length rotation
   pub translations : 16 * t ≤ length translation
   pub buffer : 64 + 192 * r + 64 * t ≤ length out

@@ -3,7 +3,7 @@
 use mathlib.Core.Path.{◌≡◌, refl, sym, ap, ◌∙◌, subst}
 use Prim.Native.Nat.{ℕ, ◌≤◌}
 use native.Mathlib.Omega.{arith}
-use mathlib.Core.Option.{Option, none, some}
+use Rattle.std.specs.Prelude.{Option, None, Some}
 use mathlib.Core.List.{List, [], ◌∷◌}
 use lib.ListN.{length, length-map}
 use lib.Dec.{T, leb, leb→le}
@@ -55,8 +55,8 @@ module _ (lent : Section) where
   -- the bytes of a name that lies in the lent halves
   good_name_lem : (nm : Option Place) → T (good_name lent nm) → GoodName (map_name (name_bytes lent) nm)
   unfolding name_bytes
-  good_name_lem none t = tt
-  good_name_lem (some p) t = good_part_lem (part lent p.address p.size) t
+  good_name_lem None t = tt
+  good_name_lem (Some p) t = good_part_lem (part lent p.address p.size) t
 
   good_names_lem : (bones : List (Bone Place)) → T (good_names lent bones) → GoodNames (named lent bones)
   unfolding good_names
@@ -121,7 +121,7 @@ module _ (lent : Section) (bones : List (Bone Place)) (free : Words4) (gfx : Byt
   laid-back = made (section-reads laid_bones free gfx ok).0 (section-reads laid_bones free gfx ok).1
     where
       made :
-          (q : List Pooled) → read_skeleton sec ample base no_rows ≡ done (some s, tables_with q) → ReadsBack lent bones free sec
+          (q : List Pooled) → read_skeleton sec ample base no_rows ≡ done (Some s, tables_with q) → ReadsBack lent bones free sec
       made q e =
           let reads : ReadsTo sec base s (tables_with q) = record { room = ample; gives = e } in
           record {
@@ -134,7 +134,7 @@ module _ (lent : Section) (bones : List (Bone Place)) (free : Words4) (gfx : Byt
             accepted = λ room droom held d.
                 derived_accepts sec room droom base s (tables_with q) ((room_decides sec base s (tables_with q) reads room).0 held)
                 (subst (λ k. T (derives droom k)) (sym (length-read q)) d) (section-derived laid_bones free gfx ok q)
-                ∙ ap (λ k. done (some k)) (length-read q);
+                ∙ ap (λ k. done (Some k)) (length-read q);
             addresses = ok.small;
           }
 

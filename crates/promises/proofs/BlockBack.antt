@@ -4,7 +4,7 @@ use mathlib.Core.Logic.{inl, inr, ◌≢◌}
 use Prim.Native.Nat.{ℕ, zero, suc, ◌+◌, ◌*◌, ◌-◌, ◌≤◌, ◌<◌}
 use native.Mathlib.Nat.{le_refl, add_assoc}
 use native.Mathlib.Omega.{arith}
-use mathlib.Core.Option.{none, some}
+use Rattle.std.specs.Prelude.{None, Some}
 use mathlib.Core.List.{List, [], ◌∷◌}
 use lib.ListN.{length}
 use lib.Dec.{leb, le→leb}
@@ -26,8 +26,8 @@ use Rattle.promises.proofs.BonesBack.{Clear, grown, grown_none, BonesGo, bones_g
 
 -- from the pointer to the first bone to a block that nothing was pooled at
 read_block-at :
-    (sec : Section) (room : Room) (a n : ℕ) (t : Tables) → a ≢ 0 → find a t.pool ≡ none →
-    read_block sec room a n t ≡ block_from sec room a n t none
+    (sec : Section) (room : Room) (a n : ℕ) (t : Tables) → a ≢ 0 → find a t.pool ≡ None →
+    read_block sec room a n t ≡ block_from sec room a n t None
 unfolding read_block
 read_block-at sec room zero n t z e = absurd (z refl)
 read_block-at sec room (suc a) n t z e = rw (read_as-fresh block (suc a) t e)
@@ -57,7 +57,7 @@ module _ (sys gfx : Bytes) (small : length sys < window) (room : Room) where
   block_goes boff noff [] t f g a an c l r m =
       record {
         pool = t.pool;
-        gives = ap (λ (x : Tables). done (none, x)) (grown_none t);
+        gives = ap (λ (x : Tables). done (None, x)) (grown_none t);
         holds = λ p x. omega (arith, c p x, l);
         count = omega arith;
       }
@@ -86,7 +86,7 @@ module _ (sys gfx : Bytes) (small : length sys < window) (room : Room) where
       from :
           {u v : Tables} → read_bones (alone sys gfx) room n (base + (boff + 16)) t ≡ done u →
           put room va block (rows (length t.members) n) u ≡ done v →
-          block_from (alone sys gfx) room va n t none ≡ done (some (rows (length t.members) n), v)
+          block_from (alone sys gfx) room va n t None ≡ done (Some (rows (length t.members) n), v)
       from e₁ e₂ =
           let s = split.0 in
           let k = length-block_items n in

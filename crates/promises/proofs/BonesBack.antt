@@ -4,7 +4,7 @@ use mathlib.Core.Logic.{◌⊎◌, inl, inr, ◌≢◌}
 use Prim.Native.Nat.{ℕ, zero, suc, ◌+◌, ◌*◌, ◌^◌, ◌≤◌, ◌<◌}
 use native.Mathlib.Nat.{le_refl, add_assoc, add-zero}
 use native.Mathlib.Omega.{arith}
-use mathlib.Core.Option.{Option, none, some}
+use Rattle.std.specs.Prelude.{Option, None, Some}
 use mathlib.Core.List.{List, [], ◌∷◌, ◌++◌, flat_map, append_assoc, append-nil}
 use lib.ListN.{length, length-append}
 use lib.Dec.{leb, ltb, lt→ltb}
@@ -49,8 +49,8 @@ not_clear l (inr y) (inr x) = omega (arith, x.1)
 
 -- a name at an address that nothing was pooled at
 read_name-at :
-    (sec : Section) (room : Room) (va : ℕ) (t : Tables) → va ≢ 0 → find va t.pool ≡ none →
-    read_name sec room va t ≡ name_from sec room va t none
+    (sec : Section) (room : Room) (va : ℕ) (t : Tables) → va ≢ 0 → find va t.pool ≡ None →
+    read_name sec room va t ≡ name_from sec room va t None
 unfolding read_name
 read_name-at sec room zero t z e = absurd (z refl)
 read_name-at sec room (suc a) t z e = rw (read_as-fresh string (suc a) t e)
@@ -63,14 +63,14 @@ module _ (sys gfx : Bytes) (small : length sys < window) (room : Room) (names : 
       (λ ps. (map_name (placed (base + off)) nm, with_pool ps t)) (Clear lo names (base + off + length (ended_name nm)))
       (suc (length t.pool))
   unfolding ended_name read_name pointer name_from
-  name_goes off lo none t g a c l n r =
+  name_goes off lo None t g a c l n r =
       record {
         pool = t.pool;
         gives = refl;
         holds = subst (λ h. Pooling (Clear lo names h) t.pool) (sym (add-zero (base + off))) c;
         count = omega arith;
       }
-  name_goes off lo (some s) t g a c l n r =
+  name_goes off lo (Some s) t g a c l n r =
       let va = base + off in
       let q = pooled va string (rows va (length s)) in
       let m : length (s ++ (0 ∷ [])) ≡ suc (length s) = length-snoc s 0 in
@@ -118,7 +118,7 @@ module _ (sys gfx : Bytes) (small : length sys < window) (room : Room) (names : 
       stands : part (alone sys gfx) va 70 ≡ done (bone_read b f ptr rest)
       stands = part_at sys gfx small 70 a (omega (arith, length-bone_items b ptr, length-append (lay (bone_items b ptr)) rest))
 
-      fresh : (hi : ℕ) (ps : List Pooled) → Pooling (Clear va names hi) ps → find va ps ≡ none
+      fresh : (hi : ℕ) (ps : List Pooled) → Pooling (Clear va names hi) ps → find va ps ≡ None
       fresh hi ps h = find-fresh (Clear va names hi) va ps h (not_clear (le_refl va) (inl (omega arith)))
 
       row : Rows

@@ -5,7 +5,7 @@ use mathlib.Core.Logic.{◌↔◌, ◌⊎◌, inl, inr}
 use Prim.Native.Nat.{ℕ}
 use native.Mathlib.Omega.{arith}
 use mathlib.Core.Bool.{Bool, true, false}
-use mathlib.Core.Option.{Option, none, some}
+use Rattle.std.specs.Prelude.{Option, None, Some}
 use lib.ListN.{length}
 use lib.Dec.{T}
 use Rattle.format.specs.Result.{Res, refused, done, ◌>>=◌, need}
@@ -36,13 +36,13 @@ InOrder droom s t =
     (Tested 22 (list_read parents_table s.parents t ≡ parents bones)
     (Tested 23 (list_read children_table s.children t ≡ children (indices bones) (parents bones))
     (Tested 24 (list_read inverse_table s.inverse t ≡ inverses bones)
-    (Tested 25 (list_read local_table s.local t ≡ locals bones) (λ a. a ≡ done (some (length bones))))))))
+    (Tested 25 (list_read local_table s.local t ≡ locals bones) (λ a. a ≡ done (Some (length bones))))))))
 
 -- six tests in a row, by what each decides
 tests_in_order :
     {P₁ P₂ P₃ P₄ P₅ P₆ : Type 0} (m : ℕ) (b₁ b₂ b₃ b₄ b₅ b₆ : Bool) →
     T b₁ ↔ P₁ → T b₂ ↔ P₂ → T b₃ ↔ P₃ → T b₄ ↔ P₄ → T b₅ ↔ P₅ → T b₆ ↔ P₆ →
-    Tested 1 P₁ (Tested 21 P₂ (Tested 22 P₃ (Tested 23 P₄ (Tested 24 P₅ (Tested 25 P₆ (λ a. a ≡ done (some m)))))))
+    Tested 1 P₁ (Tested 21 P₂ (Tested 22 P₃ (Tested 23 P₄ (Tested 24 P₅ (Tested 25 P₆ (λ a. a ≡ done (Some m)))))))
     (do
       n ← do
         u₁ ← need 1 b₁
@@ -52,7 +52,7 @@ tests_in_order :
         u₅ ← need 24 b₅
         u₆ ← need 25 b₆
         done m
-      done (some n))
+      done (Some n))
 tests_in_order m false b₂ b₃ b₄ b₅ b₆ d₁ d₂ d₃ d₄ d₅ d₆ = inl (d₁.1, refl)
 tests_in_order m true false b₃ b₄ b₅ b₆ d₁ d₂ d₃ d₄ d₅ d₆ = inr (d₁.0 tt, inl (d₂.1, refl))
 tests_in_order m true true false b₄ b₅ b₆ d₁ d₂ d₃ d₄ d₅ d₆ = inr (d₁.0 tt, inr (d₂.0 tt, inl (d₃.1, refl)))
@@ -76,7 +76,7 @@ chains_decide s t =
     (λ h. r.0 (d.0 h), λ f. d.1 (r.1 f))
 
 verdict_order :
-    (droom : DeriveRoom) (s : SkeletonRow) (t : Tables) → InOrder droom s t (verdict droom (read_of s t) >>= λ n. done (some n))
+    (droom : DeriveRoom) (s : SkeletonRow) (t : Tables) → InOrder droom s t (verdict droom (read_of s t) >>= λ n. done (Some n))
 unfolding verdict
 verdict_order droom s t =
     let r = read_of s t in
@@ -101,8 +101,8 @@ rest (inr r) p = r.1
 -- The check's answer by what reading gives: reading's refusal, none for root 0, else the tests in their order.
 abbrev pub Answers : DeriveRoom → Res (Option SkeletonRow × Tables) → Res (Option ℕ) → Type 0
 Answers droom (refused n) a = a ≡ refused n
-Answers droom (done (none, t)) a = a ≡ done none
-Answers droom (done (some s, t)) a = InOrder droom s t a
+Answers droom (done (None, t)) a = a ≡ done None
+Answers droom (done (Some s, t)) a = InOrder droom s t a
 
 module _ (sec : Section) (room : Room) (droom : DeriveRoom) (root : ℕ) where
   pub check_order :
@@ -110,17 +110,17 @@ module _ (sec : Section) (room : Room) (droom : DeriveRoom) (root : ℕ) where
       Answers droom w (check sec room droom root)
   unfolding check read check_from
   check_order (refused n) e = rw e
-  check_order (done (none, t)) e = rw e
-  check_order (done (some s, t)) e = rw e (verdict_order droom s t)
+  check_order (done (None, t)) e = rw e
+  check_order (done (Some s, t)) e = rw e (verdict_order droom s t)
 
   -- ---- acceptance
 
   -- what was read, where the check accepts it
   pub accepts_derived :
-      (s : SkeletonRow) (t : Tables) (m : ℕ) → read_skeleton sec room root no_rows ≡ done (some s, t) →
-      check sec room droom root ≡ done (some m) → Derived (bones_read s.bones t) s t
+      (s : SkeletonRow) (t : Tables) (m : ℕ) → read_skeleton sec room root no_rows ≡ done (Some s, t) →
+      check sec room droom root ≡ done (Some m) → Derived (bones_read s.bones t) s t
   accepts_derived s t m e a =
-      let r₁ = passed (check_order (done (some s, t)) e) a in
+      let r₁ = passed (check_order (done (Some s, t)) e) a in
       let r₂ = passed r₁.1 a in
       let r₃ = passed r₂.1 a in
       let r₄ = passed r₃.1 a in
@@ -129,11 +129,11 @@ module _ (sec : Section) (room : Room) (droom : DeriveRoom) (root : ℕ) where
       record { same_chains = r₂.0; same_parents = r₃.0; same_children = r₄.0; same_inverse = r₅.0; same_local = r₆.0 }
 
   pub derived_accepts :
-      (s : SkeletonRow) (t : Tables) → read_skeleton sec room root no_rows ≡ done (some s, t) →
+      (s : SkeletonRow) (t : Tables) → read_skeleton sec room root no_rows ≡ done (Some s, t) →
       T (derives droom (length (bones_read s.bones t))) → Derived (bones_read s.bones t) s t →
-      check sec room droom root ≡ done (some (length (bones_read s.bones t)))
+      check sec room droom root ≡ done (Some (length (bones_read s.bones t)))
   derived_accepts s t e d h =
-      let r₂ = rest (check_order (done (some s, t)) e) d in
+      let r₂ = rest (check_order (done (Some s, t)) e) d in
       let r₃ = rest r₂ h.same_chains in
       let r₄ = rest r₃ h.same_parents in
       let r₅ = rest r₄ h.same_children in
@@ -141,13 +141,13 @@ module _ (sec : Section) (room : Room) (droom : DeriveRoom) (root : ℕ) where
 
   -- the check accepts only what reads
   pub accepts_reads :
-      (m : ℕ) → check sec room droom root ≡ done (some m) →
-      (s : SkeletonRow) × (t : Tables) × (read_skeleton sec room root no_rows ≡ done (some s, t))
+      (m : ℕ) → check sec room droom root ≡ done (Some m) →
+      (s : SkeletonRow) × (t : Tables) × (read_skeleton sec room root no_rows ≡ done (Some s, t))
   accepts_reads m a = go (read_skeleton sec room root no_rows) refl
     where
       go :
           (w : Res (Option SkeletonRow × Tables)) → read_skeleton sec room root no_rows ≡ w →
-          (s : SkeletonRow) × (t : Tables) × (read_skeleton sec room root no_rows ≡ done (some s, t))
+          (s : SkeletonRow) × (t : Tables) × (read_skeleton sec room root no_rows ≡ done (Some s, t))
       go (refused n) e = let q = check_order (refused n) e in let z : ◌≡◌ {A = ℕ} 0 1 = cc in absurd (omega arith)
-      go (done (none, t)) e = let q = check_order (done (none, t)) e in let z : ◌≡◌ {A = ℕ} 0 1 = cc in absurd (omega arith)
-      go (done (some s, t)) e = (s, t, e)
+      go (done (None, t)) e = let q = check_order (done (None, t)) e in let z : ◌≡◌ {A = ℕ} 0 1 = cc in absurd (omega arith)
+      go (done (Some s, t)) e = (s, t, e)

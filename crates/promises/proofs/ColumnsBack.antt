@@ -2,7 +2,7 @@
 use mathlib.Core.Path.{◌≡◌, refl, sym, ap, ◌∙◌}
 use Prim.Native.Nat.{ℕ, suc}
 use native.Mathlib.Omega.{arith}
-use mathlib.Core.Option.{some}
+use Rattle.std.specs.Prelude.{Some}
 use mathlib.Core.List.{List, [], ◌∷◌, ◌++◌, map, flat_map, append_assoc, nil≢cons, head-eq_of_cons-eq, tail-eq_of_cons-eq}
 use lib.ListN.{length}
 use Rattle.math.specs.Matrix.{from_quat_pos}
@@ -64,7 +64,7 @@ columns_back (b ∷ bs) front (r ∷ rs) e =
 -- ---- rows
 
 bone_at_seam :
-    (front : List (Bone Place)) (r : Bone Place) (rs : List (Bone Place)) → bone_at (front ++ (r ∷ rs)) (length front) ≡ some r
+    (front : List (Bone Place)) (r : Bone Place) (rs : List (Bone Place)) → bone_at (front ++ (r ∷ rs)) (length front) ≡ Some r
 unfolding bone_at
 bone_at_seam [] r rs = refl
 bone_at_seam (x ∷ front) r rs = bone_at_seam front r rs

@@ -5,7 +5,7 @@ use mathlib.Core.Logic.{◌≢◌}
 use Prim.Native.Nat.{ℕ, zero, suc, ◌*◌, ◌%◌, ◌≤◌, ◌<◌}
 use native.Mathlib.Nat.{le_trans, mod-lt}
 use native.Mathlib.Omega.{arith}
-use mathlib.Core.Option.{Option, none, some}
+use Rattle.std.specs.Prelude.{Option, None, Some}
 use mathlib.Core.List.{List, [], Memᴰ}
 use lib.ListN.{length, get_or, length-map}
 use lib.Seq.{take_all}
@@ -94,16 +94,16 @@ module _ (sec : Section) (room : Room) where
 
   -- a section that reads, read alone: its root is not 0
   skeleton_read_lem :
-      (root : ℕ) (s : SkeletonRow) (t : Tables) → read_skeleton sec room root no_rows ≡ done (some s, t) →
+      (root : ℕ) (s : SkeletonRow) (t : Tables) → read_skeleton sec room root no_rows ≡ done (Some s, t) →
       (root ≢ 0) × SkeletonRead sec room root s t
   unfolding read_skeleton skeleton_from find as_kind
   skeleton_read_lem zero s t e =
-      let q : ◌≡◌ {A = Option SkeletonRow} none (some s) = step_value e in
+      let q : ◌≡◌ {A = Option SkeletonRow} None (Some s) = step_value e in
       let z : ◌≡◌ {A = ℕ} 0 1 = cc in
       absurd (omega arith)
   skeleton_read_lem (suc a) s t e =
-      gone (read_new_skeleton sec room (suc a) no_rows) _ (some s, t) e λ y p e₁.
-      let q₀ : ◌≡◌ {A = Option SkeletonRow} (some y.0) (some s) = step_value e₁ in
+      gone (read_new_skeleton sec room (suc a) no_rows) _ (Some s, t) e λ y p e₁.
+      let q₀ : ◌≡◌ {A = Option SkeletonRow} (Some y.0) (Some s) = step_value e₁ in
       let q₁ : y.0 ≡ s = cc in
       (λ z. omega (arith, z), new-skeleton_read (suc a) s t (p ∙ λ i. done (q₁ i, step_tables e₁ i)))
 
@@ -131,7 +131,7 @@ module _ (sec : Section) (tag n l : ℕ) (ts : List ℕ) (fits : length ts ≤ n
       (follow-chain sec tag n at (omega (arith, fits, length-chain ts (suc c) i)) ∙ ap done (first-chain ts (suc c) tag))
 
   lookup-buckets :
-      (a c : ℕ) (t : Tables) → BucketsRead sec a c t → chains_read l (some (rows 0 c)) t ≡ some (chains ts) →
+      (a c : ℕ) (t : Tables) → BucketsRead sec a c t → chains_read l (Some (rows 0 c)) t ≡ Some (chains ts) →
       lookup_in sec tag n (suc a) c ≡ done (greatest ts tag)
   lookup-buckets a c t b e =
       let ps = words 8 c b.bytes in
@@ -143,21 +143,21 @@ module _ (sec : Section) (tag n l : ℕ) (ts : List ℕ) (fits : length ts ≤ n
 
   lookup-array :
       (room : Room) (va c : ℕ) (o : Option Rows) (t : Tables) → read_bucket_array sec room va c no_rows ≡ done (o, t) →
-      chains_read l o t ≡ some (chains ts) → lookup_in sec tag n va c ≡ done (greatest ts tag)
+      chains_read l o t ≡ Some (chains ts) → lookup_in sec tag n va c ≡ done (greatest ts tag)
   unfolding read_bucket_array
   lookup-array room zero c o t e k =
-      let k₀ : ◌≡◌ {A = Option (List (List Entry))} (some []) (some (chains ts)) =
-      subst (λ x. chains_read l x t ≡ some (chains ts)) (sym (step_value e)) k in
+      let k₀ : ◌≡◌ {A = Option (List (List Entry))} (Some []) (Some (chains ts)) =
+      subst (λ x. chains_read l x t ≡ Some (chains ts)) (sym (step_value e)) k in
       let q : [] ≡ chains ts = cc in
       absurd (omega (arith, length-chains ts, ap length q))
   lookup-array room (suc a) c o t e k =
       let g = buckets-read sec room a c t o e in
-      lookup-buckets a c t g.1 (subst (λ x. chains_read l x t ≡ some (chains ts)) g.0 k)
+      lookup-buckets a c t g.1 (subst (λ x. chains_read l x t ≡ Some (chains ts)) g.0 k)
 
 -- in a section that reads to chains derived from its bones, two or more of them
 pub lookup-greatest :
     (sec : Section) (room : Room) (root tag : ℕ) (s : SkeletonRow) (t : Tables) →
-    read_skeleton sec room root no_rows ≡ done (some s, t) →
+    read_skeleton sec room root no_rows ≡ done (Some s, t) →
     ChainsFrom t.chained.entries (links_read s.buckets t) (chains (tags (bones_read s.bones t))) →
     2 ≤ length (bones_read s.bones t) → lookup sec root tag ≡ done (greatest (tags (bones_read s.bones t)) tag)
 unfolding lookup
@@ -166,7 +166,7 @@ lookup-greatest sec room (suc a) tag s t e k h =
     let g = (skeleton_read_lem sec room (suc a) s t e).1 in
     let bones = bones_read s.bones t in
     let n : length (tags bones) ≡ length bones = length-map bones (λ (b : Bone Place). b.tag) in
-    let read : chains_read (length bones) s.buckets t ≡ some (chains (tags bones)) =
+    let read : chains_read (length bones) s.buckets t ≡ Some (chains (tags bones)) =
     (chains_read_lem (length bones) s.buckets t (chains (tags bones)) (chains-short bones)).1 k in
     rw g.heads
     (lookup-array sec tag g.head.bone_count (length bones) (tags bones) (omega (arith, n, g.bones))
@@ -174,8 +174,8 @@ lookup-greatest sec room (suc a) tag s t e k h =
     g.chained g.buckets (sym (chains-kept (length bones) s.buckets g.chained t g.kept) ∙ read))
 
 greatest-right : (ts : List ℕ) (tag : ℕ) (o : Option ℕ) → greatest ts tag ≡ o → Right ts tag (done o)
-greatest-right ts tag none e = greatest-none ts tag e
-greatest-right ts tag (some p) e = greatest-some ts tag p e
+greatest-right ts tag None e = greatest-none ts tag e
+greatest-right ts tag (Some p) e = greatest-some ts tag p e
 
 pub found :
     (sec : Section) (root : ℕ) (room : Room) (droom : DeriveRoom) → Accepts sec room droom root →
@@ -183,7 +183,7 @@ pub found :
     (tag : ℕ) → tag ≤ 65535 → Right (tags (bones_read s.bones t)) tag (lookup sec root tag)
 found sec root room droom a s t r h tag small =
     let w = accepts_reads sec room droom root a.count a.says in
-    let e = w.2 ∙ ap done (sym (reads_held sec root s t r room (some w.0, w.1) w.2).1) in
+    let e = w.2 ∙ ap done (sym (reads_held sec root s t r room (Some w.0, w.1) w.2).1) in
     let d = accepts_derived sec room droom root s t a.count e a.says in
     let ts = tags (bones_read s.bones t) in
     rw (lookup-greatest sec room root tag s t e d.same_chains h) (greatest-right ts tag (greatest ts tag) refl)

@@ -5,7 +5,7 @@ use Prim.Native.Nat.{ℕ, zero, suc, ◌+◌, ◌-◌, ◌*◌, ◌≤◌}
 use native.Mathlib.Nat.{le_refl}
 use native.Mathlib.Omega.{arith}
 use mathlib.Core.Bool.{Bool, true, false}
-use mathlib.Core.Option.{Option, none, some}
+use Rattle.std.specs.Prelude.{Option, None, Some}
 use mathlib.Core.List.{List, [], ◌∷◌, Memᴰ}
 use lib.ListN.{length, take, drop, length-take}
 use lib.Dec.{eqb, eqb→eq, leb, ltb}
@@ -43,14 +43,14 @@ pub put_kept : (room : Room) (q : Pooled) (t u : Tables) (o : Option Pooled) →
 put_kept room q t u o e = ap (λ (x : Tables). x.chained) (put-gives room q t u o e).same
 
 pub columns_kept : (o l : Option Rows) (t : Tables) → Kept t (keep_columns o l t)
-columns_kept none l t = refl
-columns_kept (some b) none t = refl
-columns_kept (some b) (some l) t = refl
+columns_kept None l t = refl
+columns_kept (Some b) None t = refl
+columns_kept (Some b) (Some l) t = refl
 
 -- the chains read depend on the buckets and the entries alone
 pub chains-kept : (n : ℕ) (o : Option Rows) (t u : Tables) → Kept t u → chains_read n o u ≡ chains_read n o t
-chains-kept n none t u k = refl
-chains-kept n (some s) t u k = rw k
+chains-kept n None t u k = refl
+chains-kept n (Some s) t u k = rw k
 
 -- how many rows a list has
 
@@ -67,8 +67,8 @@ module _ (sec : Section) (room : Room) where
   name-kept (suc a) t u n e = gone (read_as string (suc a) t) _ (n, u) e λ r p e₁. from r e₁
     where
       from : (r : Option Rows) → name_from sec room (suc a) t r ≡ done (n, u) → Kept t u
-      from (some s) e₁ = step_kept e₁
-      from none e₁ =
+      from (Some s) e₁ = step_kept e₁
+      from None e₁ =
           gone (name_at sec (suc a)) _ (n, u) e₁ λ p q e₂.
           gone (put room (suc a) string (rows p.address p.size) t) _ (n, u) e₂ λ t'' q₂ e₃.
           step_kept e₃ ∙ put_kept room _ t t'' _ q₂
@@ -78,8 +78,8 @@ module _ (sec : Section) (room : Room) where
   bone-kept va t u r e = gone (read_as bone va t) _ (r, u) e λ o p e₁. from o e₁
     where
       from : (o : Option Rows) → bone_from sec room va t o ≡ done (r, u) → Kept t u
-      from (some s) e₁ = step_kept e₁
-      from none e₁ =
+      from (Some s) e₁ = step_kept e₁
+      from None e₁ =
           gone (part sec va 70) _ (r, u) e₁ λ b q₁ e₂.
           gone (read_name sec room (name_field b) t) _ (r, u) e₂ λ n q₂ e₃.
           gone (need 1 (ltb (length n.1.bones) room.bones)) _ (r, u) e₃ λ w q₃ e₄.
@@ -105,11 +105,11 @@ module _ (sec : Section) (room : Room) where
       from :
           (r : Option Rows) → read_as block (suc a) t ≡ done r → block_from sec room (suc a) n t r ≡ done (o, u) →
           Kept t u × (part_length o ≤ n)
-      from (some s) p e₁ =
+      from (Some s) p e₁ =
           let f = as_found block (find (suc a) t.pool) s p in
           let k = eqb→eq (kind_number f.0.kind) 4 f.2 in
           absurd (omega (arith, k, h f.0 (find_mem (suc a) t.pool f.0 f.1).0))
-      from none p e₁ =
+      from None p e₁ =
           gone (cursor sec (suc a)) _ (o, u) e₁ λ c q₁ e₂.
           gone (read_bones sec room n (suc a + 16) t) _ (o, u) e₂ λ t'' q₂ e₃.
           gone (put room (suc a) block (rows (length t.members) n) t'') _ (o, u) e₃ λ t''' q₃ e₄. (
@@ -170,11 +170,11 @@ module _ (sec : Section) (room : Room) where
   list-kept l (suc a) n t u o e = from (find (suc a) t.pool) e
     where
       from : (p : Option Pooled) → list_from sec room l (suc a) n t p ≡ done (o, u) → Kept t u
-      from none e₁ =
+      from None e₁ =
           gone (read_new sec room l (suc a) n t) _ (o, u) e₁ λ r q₁ e₂.
           gone (put room (suc a) (list l) r.0 r.1) _ (o, u) e₂ λ t'' q₂ e₃.
           step_kept e₃ ∙ put_kept room _ r.1 t'' _ q₂ ∙ new-kept l (suc a) n t r.1 r.0 q₁
-      from (some p) e₁ =
+      from (Some p) e₁ =
           gone (read_over_kind sec room l (suc a) n p.kind p.stored t) _ (o, u) e₁ λ r q₁ e₂.
           step_kept e₂ ∙ kind-kept l (suc a) n p.kind p.stored t r.1 r.0 q₁
 
@@ -186,11 +186,11 @@ length-gather bs [] = omega arith
 length-gather bs (r ∷ rs) = go (bone_at bs r) (length-gather bs rs)
   where
     go : (o : Option (Bone Place)) → length (gather bs rs) ≤ length rs → length (add_some o (gather bs rs)) ≤ suc (length rs)
-    go none h = omega arith
-    go (some b) h = omega arith
+    go None h = omega arith
+    go (Some b) h = omega arith
 
 pub length-bones_read : (o : Option Rows) (t : Tables) → length (bones_read o t) ≤ part_length o
-length-bones_read none t = omega arith
-length-bones_read (some s) t =
+length-bones_read None t = omega arith
+length-bones_read (Some s) t =
     let rs = drop s.first t.members in
     omega (arith, length-gather t.bones (take s.count rs), length-take s.count rs)

@@ -2,7 +2,7 @@
 use mathlib.Core.Path.{ap}
 use Prim.Native.Nat.{ℕ, zero, suc, ◌+◌, ◌-◌, ◌*◌}
 use mathlib.Core.Bool.{Bool, true, false}
-use mathlib.Core.Option.{Option, none, some}
+use Rattle.std.specs.Prelude.{Option, None, Some}
 use lib.ListN.{length, get_or}
 use lib.Dec.{T, leb, ltb, eqb}
 use Rattle.format.specs.Result.{need}
@@ -27,24 +27,24 @@ module _ (sec : Section) (room : Room) where
 
   name_steady : (va : ℕ) (t : Tables) → SteadyStep room t (λ r. read_name sec r va t)
   unfolding read_name name_from
-  name_steady zero t = step_ends none t
+  name_steady zero t = step_ends None t
   name_steady (suc a) t = steady_behind (read_as T.string (suc a) t) λ o e. from o
     where
       from : (o : Option Rows) → SteadyStep room t (λ r. name_from sec r (suc a) t o)
-      from (some s) = step_ends (some (record { address = s.first; size = s.count })) t
-      from none =
+      from (Some s) = step_ends (Some (record { address = s.first; size = s.count })) t
+      from None =
           steady_behind (name_at sec (suc a)) λ p e₁.
           let stored = rows p.address p.size in
           steady_then (put_steady (suc a) T.string stored t) λ t'' e₂.
-          step_ends (some p) t''
+          step_ends (Some p) t''
 
   bone_steady : (va : ℕ) (t : Tables) → SteadyStep room t (λ r. read_bone sec r va t)
   unfolding read_bone bone_from
   bone_steady va t = steady_behind (read_as T.bone va t) λ o e. from o
     where
       from : (o : Option Rows) → SteadyStep room t (λ r. bone_from sec r va t o)
-      from (some s) = step_ends s.first t
-      from none =
+      from (Some s) = step_ends s.first t
+      from None =
           steady_behind (part sec va 70) λ b e₁.
           steady_then (name_steady (name_field b) t) λ n e₂.
           let t'' = n.1 in
@@ -63,23 +63,23 @@ module _ (sec : Section) (room : Room) where
 
   block_steady : (va n : ℕ) (t : Tables) → SteadyStep room t (λ r. read_block sec r va n t)
   unfolding read_block block_from
-  block_steady zero n t = step_ends none t
+  block_steady zero n t = step_ends None t
   block_steady (suc a) n t = steady_behind (read_as T.block (suc a) t) λ o e. from o
     where
       stored : Rows
       stored = rows (length t.members) n
 
       from : (o : Option Rows) → SteadyStep room t (λ r. block_from sec r (suc a) n t o)
-      from (some s) = step_ends (some s) t
-      from none =
+      from (Some s) = step_ends (Some s) t
+      from None =
           steady_behind (cursor sec (suc a)) λ c e₁.
           steady_then (bones_steady n (suc a + 16) t) λ t'' e₂.
           steady_then (put_steady (suc a) T.block stored t'') λ t''' e₃.
-          step_ends (some stored) t'''
+          step_ends (Some stored) t'''
 
   bones_at_steady : (va n : ℕ) (t : Tables) → SteadyStep room t (λ r. read_bones_at sec r va n t)
   unfolding read_bones_at
-  bones_at_steady zero n t = step_ends none t
+  bones_at_steady zero n t = step_ends None t
   bones_at_steady (suc a) n t = steady_behind (need 13 (leb 16 (suc a))) λ u e. block_steady (suc a - 16) n t
 
   -- ---- plain arrays
@@ -114,17 +114,17 @@ module _ (sec : Section) (room : Room) where
 
   list_steady : (l : ListTable) (va n : ℕ) (t : Tables) → SteadyStep room t (λ r. read_list sec r l va n t)
   unfolding read_list list_from
-  list_steady l zero n t = step_ends none t
+  list_steady l zero n t = step_ends None t
   list_steady l (suc a) n t = from (find (suc a) t.pool)
     where
       from : (o : Option Pooled) → SteadyStep room t (λ r. list_from sec r l (suc a) n t o)
-      from none =
+      from None =
           steady_then (new_steady l (suc a) n t) λ w e₁.
           steady_then (put_steady (suc a) (T.list l) w.0 w.1) λ t'' e₂.
-          step_ends (some w.0) t''
-      from (some p) =
+          step_ends (Some w.0) t''
+      from (Some p) =
           steady_then (kind_steady l (suc a) n p.kind p.stored t) λ w e₁.
-          step_ends (some w.0) w.1
+          step_ends (Some w.0) w.1
 
   -- ---- the skeleton
 
@@ -147,11 +147,11 @@ module _ (sec : Section) (room : Room) where
 
   pub skeleton_steady : (root : ℕ) (t : Tables) → SteadyStep room t (λ r. read_skeleton sec r root t)
   unfolding read_skeleton skeleton_from
-  skeleton_steady zero t = step_ends none t
+  skeleton_steady zero t = step_ends None t
   skeleton_steady (suc a) t = steady_behind (read_as T.skeleton (suc a) t) λ o e. from o
     where
       from : (o : Option Rows) → SteadyStep room t (λ r. skeleton_from sec r (suc a) t o)
-      from (some s) = step_ends (some (get_or t.skeletons s.first no_skeleton)) t
-      from none =
+      from (Some s) = step_ends (Some (get_or t.skeletons s.first no_skeleton)) t
+      from None =
           steady_then (new-skeleton_steady (suc a) t) λ s e₁.
-          step_ends (some s.0) s.1
+          step_ends (Some s.0) s.1

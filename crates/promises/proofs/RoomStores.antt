@@ -5,7 +5,7 @@ use mathlib.Core.Logic.{◌↔◌, ◌≢◌}
 use Prim.Native.Nat.{ℕ, zero, suc, ◌+◌, ◌*◌}
 use native.Mathlib.Omega.{arith}
 use mathlib.Core.Bool.{Bool, true, false, cond}
-use mathlib.Core.Option.{Option, none, some}
+use Rattle.std.specs.Prelude.{Option, None, Some}
 use mathlib.Core.List.{List, [], ◌∷◌, ◌++◌, map, map-append}
 use lib.ListN.{length, take, drop, length-append, length-map}
 use lib.Dec.{T, leb, ltb, eqb, leb→le, le→leb, ltb→lt, lt→ltb, eqb→eq, eqb_refl}
@@ -49,14 +49,14 @@ abbrev pub addresses : List Pooled → List ℕ
 addresses ps = map (λ (p : Pooled). p.address) ps
 
 -- an address at which nothing is found is none of the pool's
-find_none : (va : ℕ) (ps : List Pooled) → find va ps ≡ none → Each (λ y. y ≢ va) (addresses ps)
+find_none : (va : ℕ) (ps : List Pooled) → find va ps ≡ None → Each (λ y. y ≢ va) (addresses ps)
 unfolding find
 find_none va [] e = tt
 find_none va (p ∷ ps) e = go (find_none va ps) (eqb p.address va) refl e
   where
     go :
-        (find va ps ≡ none → Each (λ y. y ≢ va) (addresses ps)) → (b : Bool) → eqb p.address va ≡ b →
-        cond b (some p) (find va ps) ≡ none → Each (λ y. y ≢ va) (addresses (p ∷ ps))
+        (find va ps ≡ None → Each (λ y. y ≢ va) (addresses ps)) → (b : Bool) → eqb p.address va ≡ b →
+        cond b (Some p) (find va ps) ≡ None → Each (λ y. y ≢ va) (addresses (p ∷ ps))
     go ih true k e' = let z : ◌≡◌ {A = ℕ} 0 1 = cc in absurd (omega arith)
     go ih false k e' = (λ s. subst T k (subst (λ a. T (eqb p.address a)) s (eqb_refl p.address)), ih e')
 
@@ -119,13 +119,13 @@ put_over_steady :
     {room : Room} (q : Pooled) (t : Tables) (o : Option Pooled) → find q.address t.pool ≡ o →
     SteadyStore room t (λ r. put_over r q t o)
 unfolding put_over
-put_over_steady q t (some p) e =
+put_over_steady q t (Some p) e =
     let n = length-replace q t.pool in
     steady_done (with_pool (replace q t.pool) t) λ r. (
       λ h. record { holds = omega arith; distinct = rw replace-addresses h.distinct },
       λ h. record { holds = omega arith; distinct = rw replace-addresses at h.distinct },
     )
-put_over_steady q t none e =
+put_over_steady q t None e =
     let n = length-append t.pool (q ∷ []) in
     let d = distinct_append (addresses t.pool) q.address (find_none q.address t.pool e) in
     steady_need (λ r. ltb (length t.pool) r.pool) λ fits.
@@ -142,8 +142,8 @@ put_over-leaves :
     (room : Room) (q : Pooled) (t u : Tables) (o : Option Pooled) → put_over room q t o ≡ done u →
     (u.chained ≡ t.chained) × (u.bones ≡ t.bones)
 unfolding put_over
-put_over-leaves room q t u (some p) e = let s : u ≡ with_pool (replace q t.pool) t = cc in rw s (refl, refl)
-put_over-leaves room q t u none e =
+put_over-leaves room q t u (Some p) e = let s : u ≡ with_pool (replace q t.pool) t = cc in rw s (refl, refl)
+put_over-leaves room q t u None e =
     let k = needed 1 (ltb (length t.pool) room.pool) (done (with_pool (t.pool ++ (q ∷ [])) t)) u e in
     let s : u ≡ with_pool (t.pool ++ (q ∷ [])) t = cc k.1 in
     rw s (refl, refl)
@@ -203,8 +203,8 @@ length-take_columns (r ∷ rs) (w ∷ ws) bs =
     let k = keeping (column_words (w ∷ ws)) in length-take_columns rs (drop 15 ws) (alter r k bs) ∙ length-alter r k bs
 
 pub held_columns : (b l : Option Rows) (t : Tables) (r : Room) → Held t r ↔ Held (keep_columns b l t) r
-held_columns none l t r = (λ h. h, λ h. h)
-held_columns (some b) none t r = (λ h. h, λ h. h)
-held_columns (some b) (some l) t r =
+held_columns None l t r = (λ h. h, λ h. h)
+held_columns (Some b) None t r = (λ h. h, λ h. h)
+held_columns (Some b) (Some l) t r =
     let n = length-take_columns (take b.count (drop b.first t.members)) (list_at local_table l t) t.bones in
     held-alike refl (omega arith)

@@ -3,7 +3,7 @@
 use mathlib.Core.Path.{◌≡◌, refl, sym, ap, ◌∙◌, subst}
 use Prim.Native.Nat.{ℕ, ◌+◌, ◌≤◌, ◌<◌}
 use native.Mathlib.Omega.{arith}
-use mathlib.Core.Option.{Option, some}
+use Rattle.std.specs.Prelude.{Option, Some}
 use mathlib.Core.List.{List, [], ◌∷◌, map}
 use lib.ListN.{length, length-map}
 use Rattle.format.specs.Result.{Res, done}
@@ -159,7 +159,7 @@ module _ (bones : List NamedBone) (free : Words4) where
     -- nothing was pooled at the root
     from_root :
         (q : List Pooled) → read_new_skeleton sec ample base no_rows ≡ done (skeleton_back, tables_back q) →
-        read_skeleton sec ample base no_rows ≡ done (some skeleton_back, tables_back q)
+        read_skeleton sec ample base no_rows ≡ done (Some skeleton_back, tables_back q)
     unfolding read_skeleton skeleton_from find as_kind
     from_root q e = rw e
 
@@ -197,7 +197,7 @@ module _ (bones : List NamedBone) (free : Words4) where
           count = omega (arith, k.count, ok.few);
         }
 
-    pub section-reads : (q : List Pooled) × (read_skeleton sec ample base no_rows ≡ done (some skeleton_back, tables_back q))
+    pub section-reads : (q : List Pooled) × (read_skeleton sec ample base no_rows ≡ done (Some skeleton_back, tables_back q))
     section-reads =
         let l = laid bones free in
         let list = list_goes (layout bones free) gfx ok.small ample in

@@ -1,7 +1,7 @@
 -- The words that demand 3 uses: a section that reads, tables that hold a reading, lists that equal those derived, the greatest position
 -- bearing a tag, what was written and read back. Definitions only.
 use Rattle.std.specs.Prelude.{◌≡◌, ◌≢◌, ℕ, zero, suc, ◌*◌, ◌^◌, ◌≤◌, ◌<◌, List, [], ◌∷◌, length, get_or, take, drop, T}
-use Rattle.std.proofs.Math.Option.{Option, none, some}
+use Rattle.std.specs.Prelude.{Option, None, Some}
 use Rattle.format.specs.Result.{Res, refused, done}
 use Rattle.format.specs.Section.{Section, Place, window}
 use Rattle.format.specs.Bone.{Bone, Words3, Words4}
@@ -20,7 +20,7 @@ use Rattle.format.specs.Check.{bones_read, list_read, no_entry, check}
 -- The section reads, with some tables, to this skeleton and these rows: reading gives neither a refusal nor none.
 pub record ReadsTo (sec : Section) (root : ℕ) (s : SkeletonRow) (t : Tables) : Type 0 where
   pub room : Room
-  pub gives : read_skeleton sec room root no_rows ≡ done (some s, t)
+  pub gives : read_skeleton sec room root no_rows ≡ done (Some s, t)
 
 -- Tables that hold a reading have at least the rows that it uses. The pool has one row for each distinct address pooled.
 pub record Holds (room : Room) (t : Tables) : Type 0 where
@@ -42,8 +42,8 @@ pub record Sized (sec : Section) (root : ℕ) (room : Room) (droom : DeriveRoom)
 
 -- the bucket links of a skeleton read; absent and empty are alike
 abbrev pub links_read : Option Rows → Tables → List ℕ
-links_read none t = []
-links_read (some r) t = take r.count (drop r.first t.chained.buckets)
+links_read None t = []
+links_read (Some r) t = take r.count (drop r.first t.chained.buckets)
 
 -- a chain is the tags and positions met along its links until 0; every link that reading stores leads to a row
 abbrev pub ChainFrom : List EntryRow → ℕ → List Entry → Type 0
@@ -78,7 +78,7 @@ pub record Sound (sec : Section) (root : ℕ) : Type 0 where
 -- the check says ok
 pub record Accepts (sec : Section) (room : Room) (droom : DeriveRoom) (root : ℕ) : Type 0 where
   pub count : ℕ
-  pub says : check sec room droom root ≡ done (some count)
+  pub says : check sec room droom root ≡ done (Some count)
 
 -- ---- tags
 
@@ -93,8 +93,8 @@ NoneBears ts tag = (q : ℕ) → q < length ts → get_or ts q 0 ≢ tag
 
 -- A lookup's answer is right: the greatest position bearing the tag, or none where no bone bears it. No refusal is right.
 abbrev pub Right : List ℕ → ℕ → Res (Option ℕ) → Type 0
-Right ts tag (done (some p)) = IsGreatest ts tag p
-Right ts tag (done none) = NoneBears ts tag
+Right ts tag (done (Some p)) = IsGreatest ts tag p
+Right ts tag (done None) = NoneBears ts tag
 Right ts tag (refused n) = ⊥
 
 -- ---- what the writer takes: numbers that fit their fields, which typed rows always hold
@@ -129,6 +129,6 @@ pub record ReadsBack (lent : Section) (bones : List (Bone Place)) (free : Words4
   pub free_words : skeleton.free ≡ free
   pub accepted :
       (room : Room) (droom : DeriveRoom) → Holds room tables → T (derives droom (length bones)) →
-      check sec room droom base ≡ done (some (length bones))
+      check sec room droom base ≡ done (Some (length bones))
   -- every address lies in the window of the system half
   pub addresses : length sec.system < window

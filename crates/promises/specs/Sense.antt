@@ -1,7 +1,7 @@
 -- Witnesses that the theorems speak of something: small sections and bones that meet their hypotheses, on either side. The sections are
 -- `format`'s controls, whose answers come from the Rust. `proofs/Sense.antt` computes them. Definitions only.
 use Rattle.std.specs.Prelude.{◌≡◌, ℕ, List, [], ◌∷◌}
-use Rattle.std.proofs.Math.Option.{Option, none, some}
+use Rattle.std.specs.Prelude.{Option, None, Some}
 use Rattle.format.specs.Result.{Res, refused, done}
 use Rattle.format.specs.Section.{Section, Place}
 use Rattle.format.specs.Bone.{Bone, naming}
@@ -19,8 +19,8 @@ use Rattle.promises.specs.Meaning.{ReadsTo, Sized, Sound, Accepts, Right}
 -- ---- parts of a reading
 
 abbrev pub skeleton_in : Res (Option SkeletonRow × Tables) → SkeletonRow
-skeleton_in (done (some s, t)) = s
-skeleton_in (done (none, t)) = no_skeleton
+skeleton_in (done (Some s, t)) = s
+skeleton_in (done (None, t)) = no_skeleton
 skeleton_in (refused n) = no_skeleton
 
 abbrev pub tables_in : Res (Option SkeletonRow × Tables) → Tables
@@ -64,14 +64,14 @@ pub record Sense : Type 0 where
   -- the children pointer is the parents pointer: it reads, and is refused
   pub aliased : EditedReads ((64, 144) ∷ []) × (check_with ((64, 144) ∷ []) ≡ refused 23)
   -- Found: tag 5 is borne by the bones at 0 and 2, tag 27 by none
-  pub tag_found : (lookup (control_with []) base 5 ≡ done (some 2)) × Right (5 ∷ 16 ∷ 5 ∷ []) 5 (done (some 2))
-  pub tag_not_found : (lookup (control_with []) base 27 ≡ done none) × Right (5 ∷ 16 ∷ 5 ∷ []) 27 (done none)
+  pub tag_found : (lookup (control_with []) base 5 ≡ done (Some 2)) × Right (5 ∷ 16 ∷ 5 ∷ []) 5 (done (Some 2))
+  pub tag_not_found : (lookup (control_with []) base 27 ≡ done None) × Right (5 ∷ 16 ∷ 5 ∷ []) 27 (done None)
   -- and answers that are not right: bone 0 bears tag 5 and is not the last to, bone 1 does not bear it, position 3 holds no bone, some bone
   -- bears it, it is not refused
-  pub not_greatest : Right (5 ∷ 16 ∷ 5 ∷ []) 5 (done (some 0)) → ⊥
-  pub not_bearing : Right (5 ∷ 16 ∷ 5 ∷ []) 5 (done (some 1)) → ⊥
-  pub not_standing : Right (5 ∷ 16 ∷ 5 ∷ []) 0 (done (some 3)) → ⊥
-  pub not_none : Right (5 ∷ 16 ∷ 5 ∷ []) 5 (done none) → ⊥
+  pub not_greatest : Right (5 ∷ 16 ∷ 5 ∷ []) 5 (done (Some 0)) → ⊥
+  pub not_bearing : Right (5 ∷ 16 ∷ 5 ∷ []) 5 (done (Some 1)) → ⊥
+  pub not_standing : Right (5 ∷ 16 ∷ 5 ∷ []) 0 (done (Some 3)) → ⊥
+  pub not_none : Right (5 ∷ 16 ∷ 5 ∷ []) 5 (done None) → ⊥
   pub not_refused : Right (5 ∷ 16 ∷ 5 ∷ []) 5 (refused 14) → ⊥
   -- Back: the writer takes the three bones, one with a name, one without, one with an empty name
   pub taken : written lent_name program_derive_room 944 (placed_bones three) no_free ≡ done control_bytes

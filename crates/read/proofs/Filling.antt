@@ -2,7 +2,7 @@
 -- next. Assumes nothing.
 use Prim.Native.Nat.{ℕ}
 use mathlib.Core.Path.{◌≡◌, refl, sym, ap, subst, ◌∙◌}
-use mathlib.Core.Option.{Option, none, some}
+use Rattle.std.specs.Prelude.{Option, None, Some}
 use mathlib.Core.List.{List, flat_map}
 use lib.ListN.{length}
 use Rattle.format.specs.Result.{Res, refused, done, ◌>>=◌}
@@ -102,9 +102,9 @@ module _ (sec : Section) (room : Room) (root : ℕ) (h : format.Header) where
 
 -- keeping columns changes the bones alone
 columns_bones : (o l : Option Rows) (t : Tables) → keep_columns o l t ≡ with_bones (keep_columns o l t).bones t
-columns_bones none l t = refl
-columns_bones (some b) none t = refl
-columns_bones (some b) (some l) t = refl
+columns_bones None l t = refl
+columns_bones (Some b) None t = refl
+columns_bones (Some b) (Some l) t = refl
 
 -- ---- tables that are all zero
 

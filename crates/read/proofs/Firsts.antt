@@ -4,7 +4,7 @@ use Prim.Native.Nat.{ℕ, zero, suc, ◌+◌, ◌*◌, ◌≤◌}
 use native.Mathlib.Omega.{arith}
 use mathlib.Core.Path.{◌≡◌, refl, sym, ap, ◌∙◌}
 use mathlib.Core.Bool.{Bool, true, false}
-use mathlib.Core.Option.{Option, none, some}
+use Rattle.std.specs.Prelude.{Option, None, Some}
 use mathlib.Core.List.{List, []}
 use borrow.Author.Tests.{eqb-true}
 use lib.Dec.{eqb, leb}
@@ -35,23 +35,23 @@ step_value {A} {a} {b} {t} {u} e = let q : ◌≡◌ {A = A × Tables} (a, t) (b
 step_tables : {A : Type 0} {a b : A} {t u : Tables} → ◌≡◌ {A = Res (A × Tables)} (done (a, t)) (done (b, u)) → t ≡ u
 step_tables {A} {a} {b} {t} {u} e = let q : ◌≡◌ {A = A × Tables} (a, t) (b, u) = cc in ap (λ (x : A × Tables). x.1) q
 
-some-rows : {r s : Rows} → ◌≡◌ {A = Option Rows} (some r) (some s) → r ≡ s
+some-rows : {r s : Rows} → ◌≡◌ {A = Option Rows} (Some r) (Some s) → r ≡ s
 some-rows e = cc
 
-none-some : {A : Type 0} {r : Rows} → ◌≡◌ {A = Option Rows} none (some r) → A
+none-some : {A : Type 0} {r : Rows} → ◌≡◌ {A = Option Rows} None (Some r) → A
 none-some e = let z : ◌≡◌ {A = ℕ} 0 1 = cc in absurd (omega arith)
 
 -- ---- the bucket array
 
 pub array-first :
-    (sec : Section) (room : Room) (va n : ℕ) (s : Rows) (u : Tables) → read_bucket_array sec room va n no_rows ≡ done (some s, u) →
+    (sec : Section) (room : Room) (va n : ℕ) (s : Rows) (u : Tables) → read_bucket_array sec room va n no_rows ≡ done (Some s, u) →
     s.first ≡ 0
 unfolding read_bucket_array buckets_from as_kind find
 array-first sec room zero n s u e = none-some (step_value e)
 array-first sec room (suc a) n s u e =
-    gone (array sec (suc a) (8 * n)) _ (some s, u) e λ b f e₁.
-    gone (read_buckets sec room (words 8 n b) no_rows) _ (some s, u) e₁ λ v g e₂.
-    gone (put room (suc a) buckets (rows 0 n) v) _ (some s, u) e₂ λ w h e₃.
+    gone (array sec (suc a) (8 * n)) _ (Some s, u) e λ b f e₁.
+    gone (read_buckets sec room (words 8 n b) no_rows) _ (Some s, u) e₁ λ v g e₂.
+    gone (put room (suc a) buckets (rows 0 n) v) _ (Some s, u) e₂ λ w h e₃.
     ap (λ (x : Rows). x.first) (sym (some-rows (step_value e₃)))
 
 -- ---- lists
@@ -107,8 +107,8 @@ again_found :
 again_found l va u {f} {c} h e = by (find va u.pool) refl e
   where
     by : (o : Option Pooled) → find va u.pool ≡ o → way_of l o ≡ Again f c → f + c ≤ length (words_in l u.lists)
-    by none d w = let z : ◌≡◌ {A = ℕ} 0 1 = cc in absurd (omega arith)
-    by (some p) d w = again_inside l u.lists p.kind p.stored w (h.stand va p d)
+    by None d w = let z : ◌≡◌ {A = ℕ} 0 1 = cc in absurd (omega arith)
+    by (Some p) d w = again_inside l u.lists p.kind p.stored w (h.stand va p d)
 
 module _ (s : Section) (room : Room) (l : ListTable) (u : Tables) (no : words_in l u.lists ≡ []) where
   stored-first : (w : List ℕ) (r : Rows) (v : Tables) → store_list s room l w u ≡ done (r, v) → First l r v
@@ -128,7 +128,7 @@ module _ (s : Section) (room : Room) (l : ListTable) (u : Tables) (no : words_in
   new-first va n r v e =
       gone (array s va (width l * words_per_row l * n)) _ (r, v) e λ b q e₁. stored-first (words (width l) (words_per_row l * n) b) r v e₁
 
-  first_as : {a b : Rows} {x v : Tables} → First l a x → some a ≡ some b → x ≡ v → First l b v
+  first_as : {a b : Rows} {x v : Tables} → First l a x → Some a ≡ Some b → x ≡ v → First l b v
   first_as {a} {b} {x} {v} f i j = let k : a ≡ b = some-rows i in rw (← k, ← j) f
 
   -- pooled besides
@@ -140,22 +140,22 @@ module _ (s : Section) (room : Room) (l : ListTable) (u : Tables) (no : words_in
 
   way_first :
       (va n : ℕ) (r : Rows) (v : Tables) → ListsStand u → (w : Way) → way_of l (find va u.pool) ≡ w →
-      goes s room l va n u w ≡ done (some r, v) → First l r v
+      goes s room l va n u w ≡ done (Some r, v) → First l r v
   way_first va n r v h (Again f c) i e =
       let k : f + c ≤ 0 = rw (ap length no) at (again_found l va u h i) in
       first_as (record { zero = omega arith; within = omega arith }) (step_value e) (step_tables e)
   way_first va n r v h (Copy f c) i e =
-      gone (store_list s room l (list_at (twin l) (rows f c) u) u) _ (some r, v) e λ x q e₁.
+      gone (store_list s room l (list_at (twin l) (rows f c) u) u) _ (Some r, v) e λ x q e₁.
       first_as (stored-first (list_at (twin l) (rows f c) u) x.0 x.1 q) (step_value e₁) (step_tables e₁)
   way_first va n r v h Over i e =
-      gone (read_new s room l va n u) _ (some r, v) e λ x q e₁.
+      gone (read_new s room l va n u) _ (Some r, v) e λ x q e₁.
       first_as (new-first va n x.0 x.1 q) (step_value e₁) (step_tables e₁)
   way_first va n r v h New i e =
-      gone (read_new s room l va n u) _ (some r, v) e λ x q e₁.
-      gone (put room va (list l) x.0 x.1) _ (some r, v) e₁ λ y q₂ e₂.
+      gone (read_new s room l va n u) _ (Some r, v) e λ x q e₁.
+      gone (put room va (list l) x.0 x.1) _ (Some r, v) e₁ λ y q₂ e₂.
       first_as (first-put va x.0 x.1 y (new-first va n x.0 x.1 q) q₂) (step_value e₂) (step_tables e₂)
 
-  pub list-first : (va n : ℕ) (r : Rows) (v : Tables) → ListsStand u → read_list s room l va n u ≡ done (some r, v) → First l r v
+  pub list-first : (va n : ℕ) (r : Rows) (v : Tables) → ListsStand u → read_list s room l va n u ≡ done (Some r, v) → First l r v
   unfolding read_list
   list-first zero n r v h e = none-some (step_value e)
   list-first (suc a) n r v h e =

@@ -2,7 +2,7 @@
 use Prim.Native.Nat.{ℕ, ◌-◌}
 use native.Mathlib.Omega.{arith}
 use mathlib.Core.Path.{◌≡◌, refl, sym, ap, subst, ◌∙◌}
-use mathlib.Core.Option.{some}
+use Rattle.std.specs.Prelude.{Some}
 use mathlib.Core.List.{List, [], ◌∷◌}
 use lib.ListN.{length}
 use Rattle.format.specs.Result.{done}
@@ -58,7 +58,7 @@ module _ {sec : Section} {va n : ℕ} {r : Buckets} {b₀ b e₀ e p₀ p : List
               t = d.t;
               used = k;
               used_entries = l;
-              is = d.is ∙ ap (λ (x : ℕ). done (some (rows x c), d.t)) z;
+              is = d.is ∙ ap (λ (x : ℕ). done (Some (rows x c), d.t)) z;
               holds = d.holds;
             };
       }
@@ -99,7 +99,7 @@ module _ {sec : Section} {pointer n : ℕ} {r : Block} {b₀ b p₀ p : List ℕ
             record {
               bones = d.bones;
               pool = d.pool;
-              is = d.answer ∙ ap (λ (y : Block). block_step y u) i ∙ ap (λ (x : ℕ). done (some (rows x c), u)) z;
+              is = d.answer ∙ ap (λ (y : Block). block_step y u) i ∙ ap (λ (x : ℕ). done (Some (rows x c), u)) z;
               lent = s.lent;
               fits = omega (arith, w.all, w.more, s.count);
             };
@@ -151,12 +151,12 @@ module _
           reads =
               λ room u h.
               let g = list_at (m.reads h) i in
-              let none = no_words (words_in l u.lists) h.size in
-              let d = list-first sec room l u none va n (rows f c) g.after h.lists g.is in
+              let None = no_words (words_in l u.lists) h.size in
+              let d = list-first sec room l u None va n (rows f c) g.after h.lists g.is in
               let v : Gives l room.pool (read_list sec room l va n u) (meant_part (Of c)) k t₀ t p =
               record {
                 after = g.after;
-                is = g.is ∙ ap (λ (x : ℕ). done (some (rows x c), g.after)) d.zero;
+                is = g.is ∙ ap (λ (x : ℕ). done (Some (rows x c), g.after)) d.zero;
                 size = g.size;
                 holds = g.holds;
               } in

@@ -2,7 +2,7 @@
 use Prim.Native.Nat.{ℕ}
 use native.Mathlib.Omega.{arith}
 use mathlib.Core.Path.{◌≡◌, refl, sym, ap, subst, ◌∙◌}
-use mathlib.Core.Option.{none, some}
+use Rattle.std.specs.Prelude.{None, Some}
 use mathlib.Core.List.{List, [], ◌++◌}
 use lib.ListN.{length}
 use Rattle.format.specs.Result.{done}
@@ -65,7 +65,7 @@ module _
         record {
           each =
               λ a y f k.
-              let g : none ≡ some y = beside.pool.each a y f (omega arith) in
+              let g : None ≡ Some y = beside.pool.each a y f (omega arith) in
               let z : ◌≡◌ {A = ℕ} 0 1 = cc in
               omega arith;
         }
@@ -200,13 +200,13 @@ module _
             (room : Room) (u : Tables) (g : PairLent l room u a₀ b₀ p₀) → lists.LentList (twin l) room (between room u g) 0 b₀ a p₁
         second-lent room u g =
             let v = first_read i room u g in
-            let none : words_in (twin l) (longer l v.words u.lists) ≡ [] = twin-longer l v.words u.lists ∙ g.no_second in
+            let None : words_in (twin l) (longer l v.words u.lists) ≡ [] = twin-longer l v.words u.lists ∙ g.no_second in
             let own : a ≡ laid (words_in l (longer l v.words u.lists)) (length a) =
             v.own ∙ ap (λ (j : ℕ). laid (words_in l (longer l v.words u.lists)) j) (sym same) in
             record {
               pool = v.held;
-              size = sym (ap length none);
-              own = holds-no_words b₀ g.zero-second none;
+              size = sym (ap length None);
+              own = holds-no_words b₀ g.zero-second None;
               rows = g.room-second;
               other = rw (twin-twin l) own;
               lists = v.lists;
@@ -232,9 +232,9 @@ module _
                   λ room u g.
                   let v = first_read i room u g in
                   let w = second-read j room u g in
-                  let none : words_in (twin l) (longer l v.words u.lists) ≡ [] =
+                  let None : words_in (twin l) (longer l v.words u.lists) ≡ [] =
                   twin-longer l v.words u.lists ∙ g.no_second in
-                  let words = only-words (twin l) w.words (longer l v.words u.lists) none in
+                  let words = only-words (twin l) w.words (longer l v.words u.lists) None in
                   record {
                     first = v.words;
                     second = w.words;

@@ -1,7 +1,7 @@
 -- The ways out of `read`: root 0, a refusal, and a skeleton read. Assumes nothing.
 use Prim.Native.Nat.{ℕ, zero, suc}
 use mathlib.Core.Path.{◌≡◌, refl, sym, ap, subst, ◌∙◌}
-use mathlib.Core.Option.{Option, some}
+use Rattle.std.specs.Prelude.{Option, Some}
 use mathlib.Core.List.{List}
 use lib.ListN.{length, length-replicate}
 use Rattle.format.specs.Result.{refused, done, ◌>>=◌}
@@ -59,7 +59,7 @@ sizes_clear t =
 -- a root that is not 0
 reading-new :
     (sec : Section) (room : Room) (root : ℕ) → (root ≡ 0 → ⊥) →
-    read_skeleton sec room root no_rows ≡ (read_new_skeleton sec room root no_rows >>= λ x. done (some x.0, x.1))
+    read_skeleton sec room root no_rows ≡ (read_new_skeleton sec room root no_rows >>= λ x. done (Some x.0, x.1))
 unfolding read_skeleton skeleton_from as_kind find
 reading-new sec room zero n = absurd (n refl)
 reading-new sec room (suc a) n = refl
@@ -87,7 +87,7 @@ module _ (sec : Section) (root : ℕ) (t₀ : Lent) where
           (f.fills (e ∙ sym (same_clear sized))))
 
       abbrev whole : Step SkeletonRow → Step (Option SkeletonRow)
-      whole g = g >>= λ x. done (some x.0, x.1)
+      whole g = g >>= λ x. done (Some x.0, x.1)
 
       -- the fill refused, and its tables, of which only the lengths are known, were cleared
       pub read-refused :

@@ -1,7 +1,7 @@
 -- What reading each part of a skeleton promises, in one reading: its tables are zero before it, and hold the rows of the format's
 -- tables after it (docs/FORMAT.md, "Reading and writing a skeleton"). Of a refusal the number alone is said. Definitions only.
 use Rattle.std.specs.Prelude.{ℕ, ◌≤◌, ◌≡◌, length}
-use Rattle.std.proofs.Math.Option.{Option, none, some}
+use Rattle.std.specs.Prelude.{Option, None, Some}
 use mathlib.Core.List.{List, [], flat_map}
 use Rattle.format.specs.Result.{refused, done, ◌>>=◌}
 use Rattle.format.specs.Refusal.{number}
@@ -30,8 +30,8 @@ use Rattle.read.specs.declared.parts.Two.TheVariants as T
 
 -- the rows of a part: they are the first of its table
 abbrev pub meant_part : Part → Option Rows
-meant_part Absent = none
-meant_part (Of n) = some (rows 0 n)
+meant_part Absent = None
+meant_part (Of n) = Some (rows 0 n)
 
 -- how many rows it has
 abbrev pub part_rows : Part → ℕ
@@ -63,7 +63,7 @@ pub record ReadsChains (sec : Section) (va n : ℕ) (r : Got) (b₀ b e₀ e p�
 
 -- no bones block was read
 pub record NoBlock (q : List Pooled) : Type 0 where
-  pub each : (a : ℕ) (x : Pooled) → find a q ≡ some x → kind_number x.kind ≡ kind_number block → ⊥
+  pub each : (a : ℕ) (x : Pooled) → find a q ≡ Some x → kind_number x.kind ≡ kind_number block → ⊥
 
 pub record BonesLeft (room : Room) (t : Tables) (g : Step (Option Rows)) (x : Part) (b p : List ℕ) : Type 0 where
   -- the bones and the pool after it

@@ -1,7 +1,7 @@
 -- What reading a skeleton promises: its answer is the format's, and so are the tables that it leaves (docs/FORMAT.md, "Reading and
 -- writing a skeleton", "Who can cause a refusal"). Definitions only.
 use Rattle.std.specs.Prelude.{ℕ, ◌≡◌, length}
-use Rattle.std.proofs.Math.Option.{Option, none, some}
+use Rattle.std.specs.Prelude.{Option, None, Some}
 use Rattle.format.specs.Result.{Res, refused, done}
 use Rattle.format.specs.Refusal.{number}
 use Rattle.format.specs.Section.{Section}
@@ -52,8 +52,8 @@ pub record Fills (sec : Section) (root : ℕ) (r : Filled) (t₀ t : Lent) : Typ
 
 -- our answer as the format has it
 abbrev pub meant_read : SkeletonRead → Res (Option SkeletonRow)
-meant_read Nothing = done none
-meant_read (Read s) = done (some (meant_skeleton s))
+meant_read Nothing = done None
+meant_read (Read s) = done (Some (meant_skeleton s))
 meant_read (Refused x) = refused (number x)
 
 -- a reading's answer
@@ -64,8 +64,8 @@ answer_of (done (s, u)) = done s
 -- what a reading leaves in tables that were t₀: every table zero where nothing was read, and the pool always
 abbrev pub read_leaves : Step (Option SkeletonRow) → Lent → Lent
 read_leaves (refused c) t₀ = cleared_all t₀
-read_leaves (done (none, u)) t₀ = cleared_all t₀
-read_leaves (done (some s, u)) t₀ = laid_all (table_words u) (cleared (length t₀.pool)) t₀
+read_leaves (done (None, u)) t₀ = cleared_all t₀
+read_leaves (done (Some s, u)) t₀ = laid_all (table_words u) (cleared (length t₀.pool)) t₀
 
 -- the reading g, with the answer r, of tables that were t₀
 pub record Reads (g : Step (Option SkeletonRow)) (r : SkeletonRead) (t₀ t : Lent) : Type 0 where

@@ -1,6 +1,6 @@
 -- The ways out of `header_at`, `new_block` and `read_block`. Assumes nothing.
 use Rattle.std.proofs.Common.{◌≡◌, ℕ, zero, suc, ◌+◌, ◌-◌, ◌<◌, ◌≤◌, leb, List, [], ◌++◌, length, sym, refl, ap, ◌∙◌, subst, zero-add, arith, le-leb}
-use mathlib.Core.Option.{Option, some}
+use Rattle.std.specs.Prelude.{Option, Some}
 use borrow.Author.Tests.{lt-leb}
 use Rattle.format.specs.Result.{Res, done, ◌>>=◌, need}
 use Rattle.format.specs.declared.Refusal.{Refusal}
@@ -53,7 +53,7 @@ members-after t n k o e =
 
 block_as :
     {f g : ℕ} {ms ns : List ℕ} (n : ℕ) (k : List ℕ → Tables) → f ≡ g → ms ≡ ns →
-    ◌≡◌ {A = Step (Option Rows)} (done (some (rows f n), k ms)) (done (some (rows g n), k ns))
+    ◌≡◌ {A = Step (Option Rows)} (done (Some (rows f n), k ms)) (done (Some (rows g n), k ns))
 block_as {f} {g} {ms} n k e d = rw (e, d) refl
 
 module _
@@ -264,7 +264,7 @@ module _ (sec : Section) (pointer n used : ℕ) (b₀ p₀ : List ℕ) where
           record {
             reads =
                 λ room t before i.
-                let g : as_kind block (find (pointer - 16) t.pool) ≡ done (some (rows f c)) =
+                let g : as_kind block (find (pointer - 16) t.pool) ≡ done (Some (rows f c)) =
                 sym (m.found before.lent.held) ∙ ap meant_cached e
                 in
                 let a = found_again block (find (pointer - 16) t.pool) (rows f c) g in

@@ -1,6 +1,6 @@
 -- The ways out of `bone_from`, `new_bone` and `read_bone` (docs/FORMAT.md, "Records"). Assumes nothing.
 use Rattle.std.proofs.Common.{◌≡◌, ℕ, suc, ◌+◌, ◌-◌, ◌/◌, ◌%◌, ◌<◌, ◌≤◌, Bool, true, false, eqb, List, [], ◌∷◌, ◌++◌, length, take, drop, sym, refl, ap, ◌∙◌, subst, arith, length-append, length-drop, length-take, le-ltb, lt-ltb, eqb-true}
-use mathlib.Core.Option.{some}
+use Rattle.std.specs.Prelude.{Some}
 use Rattle.format.specs.Result.{refused, done, need}
 use Rattle.format.specs.Refusal.{number}
 use Rattle.format.specs.declared.Refusal.{Refusal}
@@ -256,7 +256,7 @@ module _ {sec : Section} {va used : ℕ} (b₀ : List ℕ) {p₀ : List ℕ} {o 
       record {
         reads =
             λ room t at h.
-            let g : as_kind bone (find va t.pool) ≡ done (some (rows f c)) = sym (m.found h.lent.held) ∙ ap meant_cached e in
+            let g : as_kind bone (find va t.pool) ≡ done (Some (rows f c)) = sym (m.found h.lent.held) ∙ ap meant_cached e in
             let a = found_again bone (find va t.pool) (rows f c) g in
             let before : va < at = (h.unread.each va a.row a.here).bones a.same in
             record {

@@ -1,7 +1,7 @@
 -- What the chains leave to the bones, which are read after them: bones and members are as they were, and nothing but entries
 -- and buckets is pooled. So `read_block` finds what it is meant for in a reading from the empty pool. Assumes nothing.
 use Rattle.std.proofs.Common.{◌≡◌, ℕ, zero, suc, ◌-◌, ◌*◌, ◌<◌, ◌≤◌, ltb, List, [], ◌∷◌, length, sym, refl, ap, ◌∙◌, ⊎_elim, arith}
-use mathlib.Core.Option.{Option, none, some}
+use Rattle.std.specs.Prelude.{Option, None, Some}
 use Rattle.format.specs.Result.{Res, refused, done}
 use Rattle.format.specs.Section.{Section, part, array}
 use Rattle.format.specs.Field.{words}
@@ -25,7 +25,7 @@ unread-none at = record { each = λ a p e. let z : ◌≡◌ {A = ℕ} 0 1 = cc 
 
 -- kinds from a block's on: what the pool e has of them, q has too
 pub record Kept (q e : List Pooled) : Type 0 where
-  pub each : (a : ℕ) (x : Pooled) → find a e ≡ some x → kind_number entry < kind_number x.kind → find a q ≡ some x
+  pub each : (a : ℕ) (x : Pooled) → find a e ≡ Some x → kind_number entry < kind_number x.kind → find a q ≡ Some x
 
 pub kept-unread : {q e : List Pooled} → Kept q e → (at : ℕ) → Unread at q → Unread at e
 kept-unread h at u =
@@ -51,9 +51,9 @@ kept-enter n p q {e} d l =
           (eq-or-ne p.address a);
     }
   where
-    other : (a : ℕ) (x : Pooled) → find a e ≡ some x → p.address ≡ a → kind_number entry < kind_number x.kind → ⊥
+    other : (a : ℕ) (x : Pooled) → find a e ≡ Some x → p.address ≡ a → kind_number entry < kind_number x.kind → ⊥
     other a x f w k =
-        let g : some p ≡ some x = sym (find-enter-same n p q d) ∙ ap (λ (i : ℕ). find i e) w ∙ f in
+        let g : Some p ≡ Some x = sym (find-enter-same n p q d) ∙ ap (λ (i : ℕ). find i e) w ∙ f in
         let i : p ≡ x = cc in
         let j : kind_number p.kind ≡ kind_number x.kind = ap (λ (y : Pooled). kind_number y.kind) i in
         omega arith
@@ -93,10 +93,10 @@ module _ (sec : Section) (room : Room) where
   beside_entry :
       (next : ℕ → Tables → Res Tables) → ((va : ℕ) (t t'' : Tables) → next va t ≡ done t'' → Beside t t'') →
       (b : List ℕ) (n : ℕ) (t t'' : Tables) (l : Option ℕ) → chain_from sec room next b n t l ≡ done t'' → Beside t t''
-  beside_entry next h b n t t'' (some k) e =
+  beside_entry next h b n t t'' (Some k) e =
       let i : add_entry (entry_row (entry_tag b) (entry_position b) k) t ≡ t'' = cc in
       rw (← i) (record { bones = refl; members = refl; pool = kept_self _ })
-  beside_entry next h b n t t'' none e =
+  beside_entry next h b n t t'' None e =
       beside_then (record { bones = refl; members = refl; pool = kept_self _ })
       (h (entry_next b) (add_entry (entry_row (entry_tag b) (entry_position b) (suc (suc n))) t) t'' e)
 
@@ -114,8 +114,8 @@ module _ (sec : Section) (room : Room) where
   beside_head_from :
       (va : ℕ) (t : Tables) (l : Option ℕ) (x : ℕ × Tables) → head_from sec room va t l ≡ done x → Beside t x.1
   unfolding head_from
-  beside_head_from va t (some k) x e = let i : (k, t) ≡ x = cc in rw (← i) (beside_self t)
-  beside_head_from va t none x e =
+  beside_head_from va t (Some k) x e = let i : (k, t) ≡ x = cc in rw (← i) (beside_self t)
+  beside_head_from va t None x e =
       gone (read_chain sec room (room.entries - length t.chained.entries) va t) _ x e λ u f g.
       let i : (suc (length t.chained.entries), u) ≡ x = cc in
       rw (← i) (beside_chain (room.entries - length t.chained.entries) va t u f)
@@ -134,12 +134,12 @@ module _ (sec : Section) (room : Room) where
       (va n : ℕ) (t : Tables) (s : Option Rows) (x : Option Rows × Tables) → buckets_from sec room va n t s ≡ done x →
       Beside t x.1
   unfolding buckets_from
-  beside_array va n t (some s) x e = let i : (some s, t) ≡ x = cc in rw (← i) (beside_self t)
-  beside_array va n t none x e =
+  beside_array va n t (Some s) x e = let i : (Some s, t) ≡ x = cc in rw (← i) (beside_self t)
+  beside_array va n t None x e =
       gone (array sec va (8 * n)) _ x e λ b f g.
       gone (read_buckets sec room (words 8 n b) t) _ x g λ u h i.
       gone (put room va buckets (rows (length t.chained.buckets) n) u) _ x i λ v j k.
-      let l : (some (rows (length t.chained.buckets) n), v) ≡ x = cc in
+      let l : (Some (rows (length t.chained.buckets) n), v) ≡ x = cc in
       rw (← l)
       (beside_then (beside_buckets (words 8 n b) t u h)
       (beside_put room va buckets (rows (length t.chained.buckets) n) u v (omega arith) j))
@@ -148,6 +148,6 @@ module _ (sec : Section) (room : Room) where
   pub chains_beside :
       (va n : ℕ) (t : Tables) (x : Option Rows × Tables) → read_bucket_array sec room va n t ≡ done x → Beside t x.1
   unfolding read_bucket_array
-  chains_beside zero n t x e = let i : (none, t) ≡ x = cc in rw (← i) (beside_self t)
+  chains_beside zero n t x e = let i : (None, t) ≡ x = cc in rw (← i) (beside_self t)
   chains_beside (suc a) n t x e =
       gone (read_as buckets (suc a) t) _ x e λ s f g. beside_array (suc a) n t s x g

@@ -237,5 +237,5 @@ module _ {n words : ℕ} {local b₀ : List ℕ} {row : ℕ} {b : List ℕ} (g :
   keeping-no_row l =
       ended λ m bs h r k bones.
       let fits = laid-fits (words_of bs) b₀ h.rows in
-      let none : n - row ≡ 0 = omega (arith, length-words_of bs) in
-      rw (up_from-none row (n - row) none) (no_bone (drop (16 * row) (take words local)) bones)
+      let None : n - row ≡ 0 = omega (arith, length-words_of bs) in
+      rw (up_from-none row (n - row) None) (no_bone (drop (16 * row) (take words local)) bones)

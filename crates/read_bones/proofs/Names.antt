@@ -1,6 +1,6 @@
 -- The ways out of `new_name` and `read_name` (docs/FORMAT.md, "Finding bytes"). Assumes nothing.
 use Rattle.std.proofs.Common.{◌≡◌, ℕ, zero, suc, ◌<◌, List, length, drop, sym, refl, ap, ◌∙◌, arith}
-use mathlib.Core.Option.{some}
+use Rattle.std.specs.Prelude.{Some}
 use Rattle.format.specs.Result.{done, ◌>>=◌}
 use Rattle.format.specs.declared.Refusal.{Refusal}
 use Rattle.format.specs.declared.Refusal.TheVariants.{TableTooShort}
@@ -25,7 +25,7 @@ use Rattle.read_bones.proofs.Pools.{found_again, unread-enter}
 
 -- ---- places
 
-pub place-some : (a n : ℕ) → 0 < a → place_of a n ≡ some (record { address = a; size = n })
+pub place-some : (a n : ℕ) → 0 < a → place_of a n ≡ Some (record { address = a; size = n })
 unfolding place_of
 place-some zero n h = absurd (omega arith)
 place-some (suc a) n h = refl
@@ -130,7 +130,7 @@ module _ {sec : Section} {va : ℕ} (pos : va ≡ 0 → ⊥) {p₀ : List ℕ} {
       record {
         reads =
             λ room t at h u.
-            let g : as_kind string (find va t.pool) ≡ done (some (rows f c)) = sym (m.found h) ∙ ap meant_cached e in
+            let g : as_kind string (find va t.pool) ≡ done (Some (rows f c)) = sym (m.found h) ∙ ap meant_cached e in
             let a = found_again string (find va t.pool) (rows f c) g in
             let l : 0 < f = rw a.stored at ((u.each va a.row a.here).names a.same) in
             record {

@@ -1,7 +1,7 @@
 -- What reading the bones block promises: the format's `read_bones` and `read_bones_at`, in a single reading (no bone was read before).
 -- Nothing is said of the tables after a refusal. Definitions only.
 use Rattle.std.specs.Prelude.{◌≡◌, ℕ, ◌+◌, ◌-◌, List, ◌++◌, length, ◌≢◌}
-use Rattle.std.proofs.Math.Option.{Option, none, some}
+use Rattle.std.specs.Prelude.{Option, None, Some}
 use Rattle.format.specs.Result.{Res, refused, done}
 use Rattle.format.specs.Refusal.{number}
 use Rattle.format.specs.Section.{Section, Spot, Place, cursor}
@@ -58,8 +58,8 @@ pub record LegalAt (sec : Section) (va : ℕ) (r : Header) : Type 0 where
   pub answer : cursor sec va ≡ header_step r place
 
 abbrev pub block_step : Block → Tables → Step (Option Rows)
-block_step Absent t = done (none, t)
-block_step (At first size used) t = done (some (rows first size), t)
+block_step Absent t = done (None, t)
+block_step (At first size used) t = done (Some (rows first size), t)
 block_step (Refused x) t = refused (number x)
 
 -- the first of a block's members and their number, where it was not read before: its bones take the next n rows
@@ -75,7 +75,7 @@ pub record BlockStands
     pub lent : LentBones room bones pool b p
     pub count : used ≡ length bones
     pub new :
-        ((x : Pooled) → find va t.pool ≡ some x → kind_number x.kind ≢ kind_number block) → NewBlockRows t n first size used
+        ((x : Pooled) → find va t.pool ≡ Some x → kind_number x.kind ≢ kind_number block) → NewBlockRows t n first size used
 
 abbrev pub BlockTable : Block → Room → Tables → ℕ → ℕ → List (Bone Place) → List Pooled → List ℕ → List ℕ → Type 0
 BlockTable Absent room t va n bones pool b p = LentBones room bones pool b p
@@ -92,7 +92,7 @@ pub record BlockLeft (g : Step (Option Rows)) (room : Room) (t : Tables) (va n :
 
 pub record NewBlock (sec : Section) (pointer n used : ℕ) (r : Block) (b₀ b p₀ p : List ℕ) : Type 0 where
   pub reads : (room : Room) (t : Tables) → Before room t pointer used b₀ p₀ → InOrder t →
-      BlockLeft (block_from sec room (pointer - 16) n t none) room t (pointer - 16) n r b p
+      BlockLeft (block_from sec room (pointer - 16) n t None) room t (pointer - 16) n r b p
 
 pub record ReadsBlock (sec : Section) (pointer n used : ℕ) (r : Block) (b₀ b p₀ p : List ℕ) : Type 0 where
   pub reads : (room : Room) (t : Tables) → Before room t pointer used b₀ p₀ → InOrder t →

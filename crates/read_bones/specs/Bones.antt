@@ -1,7 +1,7 @@
 -- What reading one bone promises: the format's `read_name` and `read_bone`, over whatever bones and pool the lent tables hold.
 -- Nothing is said of the tables after a refusal. Definitions only.
 use Rattle.std.specs.Prelude.{◌≡◌, ℕ, suc, ◌+◌, ◌<◌, ◌≤◌, List, length}
-use Rattle.std.proofs.Math.Option.{Option, none}
+use Rattle.std.specs.Prelude.{Option, None}
 use Rattle.format.specs.Result.{refused, done}
 use Rattle.format.specs.Refusal.{number}
 use Rattle.format.specs.Field.{field_at}
@@ -68,7 +68,7 @@ pub record NameLeft (g : Step (Option section.Place)) (n : ℕ) (t : Tables) (at
 
 pub record NewName (sec : Section) (va : ℕ) (r : Named) (p₀ p : List ℕ) : Type 0 where
   pub reads : (room : Room) (t : Tables) (at : ℕ) → Represents p₀ room.pool t.pool → Unread at t.pool → 0 < va →
-      NameLeft (name_from sec room va t none) room.pool t at r p
+      NameLeft (name_from sec room va t None) room.pool t at r p
 
 pub record ReadsName (sec : Section) (va : ℕ) (r : Named) (p₀ p : List ℕ) : Type 0 where
   pub reads : (room : Room) (t : Tables) (at : ℕ) → Represents p₀ room.pool t.pool → Unread at t.pool →
@@ -115,11 +115,11 @@ pub record Before (room : Room) (t : Tables) (at used : ℕ) (b p : List ℕ) : 
 
 pub record BoneFrom (sec : Section) (bytes : List ℕ) (va used : ℕ) (r : Row) (b₀ b p₀ p : List ℕ) : Type 0 where
   pub reads : (room : Room) (t : Tables) (at : ℕ) → Before room t at used b₀ p₀ → part sec va 70 ≡ done bytes →
-      BoneLeft (bone_from sec room va t none) room t at va r b p
+      BoneLeft (bone_from sec room va t None) room t at va r b p
 
 pub record NewBone (sec : Section) (va used : ℕ) (r : Row) (b₀ b p₀ p : List ℕ) : Type 0 where
   pub reads : (room : Room) (t : Tables) (at : ℕ) → Before room t at used b₀ p₀ →
-      BoneLeft (bone_from sec room va t none) room t at va r b p
+      BoneLeft (bone_from sec room va t None) room t at va r b p
 
 pub record ReadsBone (sec : Section) (va used : ℕ) (r : Row) (b₀ b p₀ p : List ℕ) : Type 0 where
   pub reads : (room : Room) (t : Tables) (at : ℕ) → Before room t at used b₀ p₀ →

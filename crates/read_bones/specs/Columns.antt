@@ -1,6 +1,6 @@
 -- What keeping column 4 promises: the format's `keep_columns`, of tables of a single reading. Definitions only.
 use Rattle.std.specs.Prelude.{◌≡◌, ℕ, ◌≤◌, List, length}
-use Rattle.std.proofs.Math.Option.{some}
+use Rattle.std.specs.Prelude.{Some}
 use Rattle.format.specs.Tables.{rows, Tables}
 use Rattle.format.specs.Rows.{laid}
 use Rattle.format.specs.Read.{keep_columns}
@@ -11,4 +11,4 @@ use Rattle.read_bones.specs.Lent.{BonesIn, InOrder}
 pub record KeepsColumns (n words : ℕ) (local b₀ b : List ℕ) : Type 0 where
   pub keeps : (m : ℕ) (t : Tables) → BonesIn b₀ m t.bones → InOrder t → n ≤ length t.bones →
       local ≡ laid t.lists.local (length local) → words ≤ length t.lists.local →
-      BonesIn b m (keep_columns (some (rows 0 n)) (some (rows 0 words)) t).bones
+      BonesIn b m (keep_columns (Some (rows 0 n)) (Some (rows 0 words)) t).bones

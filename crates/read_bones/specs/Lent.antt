@@ -1,6 +1,6 @@
 -- What the lent tables stand for while bones are read: some bones, and a pool. Definitions only.
 use Rattle.std.specs.Prelude.{◌≡◌, ℕ, ◌/◌, ◌<◌, List, length}
-use Rattle.std.proofs.Math.Option.{some}
+use Rattle.std.specs.Prelude.{Some}
 use mathlib.Core.List.{flat_map}
 use Rattle.format.specs.Section.{Place}
 use Rattle.format.specs.Bone.{Bone}
@@ -32,7 +32,7 @@ pub record Passed (at a : ℕ) (p : Pooled) : Type 0 where
 
 -- no bone from the address `at` on was read, as no single reading has when it comes to its bones; names are where they were found
 pub record Unread (at : ℕ) (pool : List Pooled) : Type 0 where
-  pub each : (a : ℕ) (p : Pooled) → find a pool ≡ some p → Passed at a p
+  pub each : (a : ℕ) (p : Pooled) → find a pool ≡ Some p → Passed at a p
 
 -- The members are all rows in order. It is so in a single reading, where no bone is read twice, and then no table of members is
 -- lent: row i is member i. Readings that share their tables need such a table, lent beside the bones.

@@ -3,7 +3,7 @@
 use Prim.Native.Nat.{ℕ, suc, ◌+◌, ◌-◌, ◌%◌, ◌≤◌, ◌<◌}
 use native.Mathlib.Omega.{arith}
 use mathlib.Core.Path.{◌≡◌, refl, sym, ap, subst, ◌∙◌}
-use mathlib.Core.Option.{Option, none, some}
+use Rattle.std.specs.Prelude.{Option, None, Some}
 use mathlib.Core.List.{List}
 use lib.ListN.{length}
 use Rattle.format.specs.Result.{Res, refused, done, ◌>>=◌}
@@ -115,7 +115,7 @@ module _ (sec : Section) {va used : ℕ} {e₀ p₀ : List ℕ} {x : Link} (m : 
   unfolding head_from
   head_known {k} i =
       record {
-        reads = λ {room} {t} h. record { t = t; is = linked h (done (some k)) (ap meant_link i); holds = h };
+        reads = λ {room} {t} h. record { t = t; is = linked h (done (Some k)) (ap meant_link i); holds = h };
       }
 
   pub head_other : {y : Refusal} → x ≡ L.Refused y → ReadsHead sec va used (H.Refused y) e₀ e₀ p₀ p₀
@@ -128,7 +128,7 @@ module _ (sec : Section) {va used : ℕ} {e₀ p₀ : List ℕ} {x : Link} (m : 
         read_chain sec room (room.entries - used) va t ≡ o → read_head sec room va t ≡ (o >>= λ u. done (suc used, u))
     unfolding head_from
     reading {room} {t} h o f =
-        linked h (done none) (ap meant_link i) ∙ rw (← h.count, f) refl
+        linked h (done None) (ap meant_link i) ∙ rw (← h.count, f) refl
 
     chained : {y : Chain} → r ≡ y → {room : Room} {t : Tables} → HoldsEntries room t used e₀ p₀ →
         ChainRead room (read_chain sec room (room.entries - used) va t) e p y

@@ -1,7 +1,7 @@
 -- The ways out of `no_row` and `link_to`. Assumes nothing.
 use Prim.Native.Nat.{ℕ, zero, suc, ◌+◌, ◌%◌}
 use mathlib.Core.Path.{◌≡◌, refl, sym, ap, ◌∙◌}
-use mathlib.Core.Option.{Option, some}
+use Rattle.std.specs.Prelude.{Option, Some}
 use mathlib.Core.List.{List}
 use Rattle.format.specs.Result.{Res, refused, done, ◌>>=◌}
 use Rattle.format.specs.Refusal.{number}
@@ -68,7 +68,7 @@ module _ {p : List ℕ} {va : ℕ} (n : va ≡ 0 → ⊥) {x : Cached} (m : Find
 
   pub links_read_lem : {f c k : ℕ} → x ≡ C.At f c → k ≡ f % 4294967295 + 1 → LinksTo p va (L.To k)
   links_read_lem {f} {c} {k} e i =
-      links_by e tt λ t l is. let j : k ≡ suc f = link_row f i (l.fits va (rows f c) is) in ap (λ (y : ℕ). done (some y)) j
+      links_by e tt λ t l is. let j : k ≡ suc f = link_row f i (l.fits va (rows f c) is) in ap (λ (y : ℕ). done (Some y)) j
 
   pub links-other : {y : Refusal} → x ≡ C.Refused y → LinksTo p va (L.Refused y)
   links-other e = links_by e tt λ t l is. refl

@@ -2,7 +2,7 @@
 use Prim.Native.Nat.{ℕ, zero, suc, ◌-◌, ◌*◌, ◌<◌}
 use native.Mathlib.Omega.{arith}
 use mathlib.Core.Path.{◌≡◌, refl, sym, ap, subst, ◌∙◌}
-use mathlib.Core.Option.{Option, none, some}
+use Rattle.std.specs.Prelude.{Option, None, Some}
 use mathlib.Core.List.{List, [], ◌∷◌, ◌++◌}
 use lib.Dec.{ltb}
 use lib.ListN.{length}
@@ -42,10 +42,10 @@ unfolding put_over
 put-pool room va k r t u e = by (find va t.pool) e
   where
     by : (o : Option Pooled) → put_over room (pooled va k r) t o ≡ done u → u ≡ with_pool u.pool t
-    by (some o) d =
+    by (Some o) d =
         let i : with_pool (replace (pooled va k r) t.pool) t ≡ u = cc in
         sym i ∙ ap (λ (x : Tables). with_pool x.pool t) i
-    by none d =
+    by None d =
         let i : with_pool (t.pool ++ (pooled va k r ∷ [])) t ≡ u =
         done_inj (needed 1 (ltb (length t.pool) room.pool) (done (with_pool (t.pool ++ (pooled va k r ∷ [])) t)) u d).1 in
         sym i ∙ ap (λ (x : Tables). with_pool x.pool t) i
@@ -55,11 +55,11 @@ module _ (sec : Section) (room : Room) where
       (next : ℕ → Tables → Res Tables) (b : List ℕ) (n : ℕ) (v u : Tables) →
       ((a : ℕ) (w : Tables) → next a w ≡ done u → OnlyEntries w u) → (l : Option ℕ) → chain_from sec room next b n v l ≡ done u →
       OnlyEntries v u
-  entry_kept next b n v u ih (some k) d =
+  entry_kept next b n v u ih (Some k) d =
       let i : add_entry (entry_row (entry_tag b) (entry_position b) k) v ≡ u = done_inj d in
       sym i ∙
       ap (λ (w : Tables). with_chains (record { buckets = v.chained.buckets; entries = w.chained.entries }) w.pool v) i
-  entry_kept next b n v u ih none d = ih (entry_next b) (add_entry (entry_row (entry_tag b) (entry_position b) (suc (suc n))) v) d
+  entry_kept next b n v u ih None d = ih (entry_next b) (add_entry (entry_row (entry_tag b) (entry_position b) (suc (suc n))) v) d
 
   chain-kept : (left va : ℕ) (t u : Tables) → read_chain sec room left va t ≡ done u → OnlyEntries t u
   unfolding read_chain
@@ -79,10 +79,10 @@ module _ (sec : Section) (room : Room) where
 
   head_by : (va : ℕ) (t u : Tables) (k : ℕ) (l : Option ℕ) → head_from sec room va t l ≡ done (k, u) → OnlyEntries t u
   unfolding head_from
-  head_by va t u k (some j) e =
+  head_by va t u k (Some j) e =
       let i : t ≡ u = ap (λ (x : ℕ × Tables). x.1) (done_inj e) in
       subst (λ (x : Tables). OnlyEntries t x) i refl
-  head_by va t u k none e =
+  head_by va t u k None e =
       gone (read_chain sec room (room.entries - length t.chained.entries) va t) _ (k, u) e λ v c d.
       let i : v ≡ u = ap (λ (x : ℕ × Tables). x.1) (done_inj d) in
       subst (λ (x : Tables). OnlyEntries t x) i (chain-kept (room.entries - length t.chained.entries) va t v c)
@@ -104,10 +104,10 @@ module _ (sec : Section) (room : Room) where
   from_kept :
       (va n : ℕ) (t u : Tables) (r : Option Rows) (o : Option Rows) → buckets_from sec room va n t o ≡ done (r, u) → OnlyChains t u
   unfolding buckets_from
-  from_kept va n t u r (some s) e =
+  from_kept va n t u r (Some s) e =
       let i : t ≡ u = ap (λ (x : Option Rows × Tables). x.1) (done_inj e) in
       subst (λ (x : Tables). OnlyChains t x) i refl
-  from_kept va n t u r none e =
+  from_kept va n t u r None e =
       gone (array sec va (8 * n)) _ (r, u) e λ b a e₁.
       gone (read_buckets sec room (words 8 n b) t) _ (r, u) e₁ λ v q e₂.
       gone (put room va buckets (rows (length t.chained.buckets) n) v) _ (r, u) e₂ λ w p e₃.

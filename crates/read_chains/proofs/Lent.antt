@@ -5,7 +5,7 @@ use native.Mathlib.Nat.{mod-eq_of_lt, mul-suc}
 use native.Mathlib.Omega.{arith}
 use mathlib.Core.Path.{◌≡◌, refl, sym, ap, ◌∙◌}
 use mathlib.Core.Bool.{Bool, true, false, cond}
-use mathlib.Core.Option.{some}
+use Rattle.std.specs.Prelude.{Some}
 use mathlib.Core.Logic.{⊎_elim}
 use mathlib.Core.List.{List, [], ◌∷◌, ◌++◌, flat_map}
 use borrow.Author.Tests.{lt-ltb, le-ltb, ltb-true, ltb-false}
@@ -65,7 +65,7 @@ linked-none = record { fits = λ a s e. let z : ◌≡◌ {A = ℕ} 0 1 = cc in 
 -- a row entered keeps them, if it fits itself
 linked-enter :
     (n : ℕ) (p : Pooled) {q e : List Pooled} → LinksFit q → enter n p q ≡ done e →
-    ((s : Rows) → as_kind entry (some p) ≡ done (some s) → s.first < 4294967295) → LinksFit e
+    ((s : Rows) → as_kind entry (Some p) ≡ done (Some s) → s.first < 4294967295) → LinksFit e
 linked-enter n p {q} {e} l d fits =
     record {
       fits =
@@ -92,7 +92,7 @@ pub linked-other :
 unfolding as_kind
 linked-other n va k x o l d = linked-enter n (pooled va k x) l d λ s g. absurd (by (same_kind k entry) o s g)
   where
-    by : (b : Bool) → b ≡ false → (s : Rows) → (need 12 b >>= λ u. done (some x)) ≡ done (some s) → ⊥
+    by : (b : Bool) → b ≡ false → (s : Rows) → (need 12 b >>= λ u. done (Some x)) ≡ done (Some s) → ⊥
     by true f s g = let z : ◌≡◌ {A = ℕ} 0 1 = cc in omega arith
     by false f s g = let z : ◌≡◌ {A = ℕ} 0 1 = cc in omega arith
 

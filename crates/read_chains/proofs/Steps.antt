@@ -2,7 +2,7 @@
 use Prim.Native.Nat.{ℕ, suc, ◌+◌, ◌*◌, ◌%◌, ◌<◌}
 use native.Mathlib.Omega.{arith}
 use mathlib.Core.Path.{◌≡◌, refl, sym, ap, subst, ◌∙◌}
-use mathlib.Core.Option.{Option, none, some}
+use Rattle.std.specs.Prelude.{Option, None, Some}
 use mathlib.Core.List.{List, [], ◌∷◌}
 use lib.ListN.{length}
 use lib.Seq.{sets}
@@ -88,7 +88,7 @@ module _ (sec : Section) (va row : ℕ) {e₀ p₀ : List ℕ} {y : Fields} (fs 
                   record {
                     t = add_entry (entry_row f.tag f.position k) (with h);
                     is =
-                        turn h left (done (some k)) (ap meant_link i) ∙
+                        turn h left (done (Some k)) (ap meant_link i) ∙
                         ap (λ (x : Entry). done (add_entry (entry_row x.tag x.position k) (with h))) (holding fs a).fields;
                     holds = holds-entry h w d fits f.tag f.position k is;
                   };
@@ -108,7 +108,7 @@ module _ (sec : Section) (va row : ℕ) {e₀ p₀ : List ℕ} {y : Fields} (fs 
                   record {
                     t = add_entry (entry_row f.tag f.position k) (with h);
                     is =
-                        turn h left (done none) (ap meant_link i) ∙
+                        turn h left (done None) (ap meant_link i) ∙
                         ap
                         (λ (x : Entry).
                         read_chain sec room left x.next (add_entry (entry_row x.tag x.position (suc (suc row))) (with h)))

@@ -1,7 +1,7 @@
 -- What reading buckets promises, over every tables that the lent ones hold (docs/FORMAT.md, "Reading and writing a skeleton"). Of a
 -- refusal the number alone is said. Definitions only.
 use Rattle.std.specs.Prelude.{ℕ, ◌/◌, ◌≡◌, List, ◌∷◌, length}
-use Rattle.std.proofs.Math.Option.{Option, none, some}
+use Rattle.std.specs.Prelude.{Option, None, Some}
 use Rattle.format.specs.Result.{Res, refused, done}
 use Rattle.format.specs.Refusal.{number}
 use Rattle.format.specs.Field.{words}
@@ -48,16 +48,16 @@ pub record ReadsPointers
 -- the array that the answer names, or none, and how many rows are used then
 abbrev pub Arrayed : Room → Step (Option Rows) → ℕ → ℕ → List ℕ → List ℕ → List ℕ → Buckets → Type 0
 Arrayed room g used used_entries b e p B.Absent =
-    Comes (λ u. HoldsChains room u used used_entries b e p) g (λ u. done (none, u))
+    Comes (λ u. HoldsChains room u used used_entries b e p) g (λ u. done (None, u))
 Arrayed room g used used_entries b e p (B.At first count n m) =
-    Comes (λ u. HoldsChains room u n m b e p) g (λ u. done (some (rows first count), u))
+    Comes (λ u. HoldsChains room u n m b e p) g (λ u. done (Some (rows first count), u))
 Arrayed room g used used_entries b e p (B.Refused x) = g ≡ refused (number x)
 
 -- an array that is yet to be read
 pub record ReadsNewArray (sec : Section) (va count used used_entries : ℕ) (r : Buckets) (b₀ b e₀ e p₀ p : List ℕ) : Type 0 where
   pub reads :
       {room : Room} {t : Tables} → HoldsChains room t used used_entries b₀ e₀ p₀ →
-      Arrayed room (buckets_from sec room va count t none) used used_entries b e p r
+      Arrayed room (buckets_from sec room va count t None) used used_entries b e p r
 
 -- The whole: the lent tables b₀, e₀ and p₀ hold the buckets, the entries and the pool of t, and then b, e and p hold those of the
 -- tables that `read_bucket_array` gives.

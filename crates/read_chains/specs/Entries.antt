@@ -1,7 +1,7 @@
 -- What reading entries and chains promises, over every tables that the lent ones hold (docs/FORMAT.md, "Reading and writing a
 -- skeleton"). Of a refusal the number alone is said. Definitions only.
 use Rattle.std.specs.Prelude.{ℕ, suc, ◌+◌, ◌-◌, ◌≡◌, List}
-use Rattle.std.proofs.Math.Option.{Option, none, some}
+use Rattle.std.specs.Prelude.{Option, None, Some}
 use Rattle.format.specs.Result.{Res, refused, done, ◌>>=◌}
 use Rattle.format.specs.Refusal.{number}
 use Rattle.format.specs.Section.{Section, part}
@@ -29,8 +29,8 @@ no_row sec va = do
 -- ---- links
 
 abbrev pub meant_link : Link → Res (Option ℕ)
-meant_link (L.To k) = done (some k)
-meant_link (L.Unread i) = done none
+meant_link (L.To k) = done (Some k)
+meant_link (L.Unread i) = done None
 meant_link (L.Refused x) = refused (number x)
 
 -- the search for an entry that is yet to be read ended at the row told

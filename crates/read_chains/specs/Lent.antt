@@ -1,7 +1,7 @@
 -- What the lent tables stand for: the entries, the buckets and the pool of the format's tables, whatever tables these are
 -- (docs/FORMAT.md, "Reading and writing a skeleton"). Definitions only.
 use Rattle.std.specs.Prelude.{ℕ, ◌/◌, ◌<◌, ◌≡◌, cond, ltb, length}
-use Rattle.std.proofs.Math.Option.{some}
+use Rattle.std.specs.Prelude.{Some}
 use mathlib.Core.List.{List, flat_map}
 use Rattle.format.specs.Result.{Res, done}
 use Rattle.format.specs.Tables.{entry, Rows, Pooled, Tables, Room, find, as_kind}
@@ -15,7 +15,7 @@ entry_room n = cond (ltb (n / 3) 4294967294) (n / 3) 4294967294
 
 -- the link to each entry of the pool is a 32-bit word
 pub record LinksFit (q : List Pooled) : Type 0 where
-  pub fits : (a : ℕ) (s : Rows) → as_kind entry (find a q) ≡ done (some s) → s.first < 4294967295
+  pub fits : (a : ℕ) (s : Rows) → as_kind entry (find a q) ≡ done (Some s) → s.first < 4294967295
 
 -- the table e holds the entries, `used` rows of it, and p the pool
 pub record HoldsEntries (room : Room) (t : Tables) (used : ℕ) (e p : List ℕ) : Type 0 where

@@ -3,7 +3,7 @@
 use Prim.Native.Nat.{ℕ, zero, suc, ◌+◌, ◌-◌}
 use native.Mathlib.Omega.{arith}
 use mathlib.Core.Path.{◌≡◌, refl, sym, ap, subst, ◌∙◌}
-use mathlib.Core.Option.{Option, none, some}
+use Rattle.std.specs.Prelude.{Option, None, Some}
 use mathlib.Core.List.{List, [], ◌∷◌, ◌++◌, flat_map}
 use lib.Dec.{leb}
 use lib.ListN.{length, take, drop}
@@ -40,8 +40,8 @@ use Rattle.read_laws.specs.Bytes.{SectionBytes}
 
 -- the rows of a part are all of some bones
 abbrev All : Option Rows → List (Bone Place) → Type 0
-All none bs = bs ≡ []
-All (some r) bs = (r.first ≡ 0) × (r.count ≡ length bs)
+All None bs = bs ≡ []
+All (Some r) bs = (r.first ≡ 0) × (r.count ≡ length bs)
 
 -- the members are all the rows in order, each fits its row, and the part has them all
 record Whole (o : Option Rows) (t : Tables) : Type 0 where
@@ -54,9 +54,9 @@ record Start (t : Tables) : Type 0 where
   bones : t.bones ≡ []
   members : t.members ≡ []
   unread : (at : ℕ) → Unread at t.pool
-  no_block : (a : ℕ) (x : Pooled) → find a t.pool ≡ some x → kind_number x.kind ≡ kind_number block → ⊥
+  no_block : (a : ℕ) (x : Pooled) → find a t.pool ≡ Some x → kind_number x.kind ≡ kind_number block → ⊥
 
-whole-none : (t : Tables) → Start t → Whole none t
+whole-none : (t : Tables) → Start t → Whole None t
 unfolding up_from
 whole-none t s = record { order = rw (s.members, s.bones) refl; fits = rw s.bones fit_none; all = s.bones }
 
@@ -73,7 +73,7 @@ module _ (sec : Section) (bytes : SectionBytes sec) (room : Room) where
         unread = λ at. kept-unread b.pool at (unread-none at);
         no_block =
             λ a y f k.
-            let g : none ≡ some y = b.pool.each a y f (omega arith) in
+            let g : None ≡ Some y = b.pool.each a y f (omega arith) in
             let z : ◌≡◌ {A = ℕ} 0 1 = cc in
             omega arith;
       }
@@ -86,10 +86,10 @@ module _ (sec : Section) (bytes : SectionBytes sec) (room : Room) where
     where
       from :
           (r : Option Rows) → read_as block (suc a) t ≡ done r → block_from sec room (suc a) n t r ≡ done (o, u) → Whole o u
-      from (some x) p e₁ =
+      from (Some x) p e₁ =
           let f = found_again block (find (suc a) t.pool) x p in
           absurd (s.no_block (suc a) f.row f.here f.same)
-      from none p e₁ =
+      from None p e₁ =
           gone (cursor sec (suc a)) _ (o, u) e₁ λ c q₁ e₂.
           gone (read_bones sec room n (suc a + 16) t) _ (o, u) e₂ λ v q₂ e₃.
           gone (put room (suc a) block (rows (length t.members) n) v) _ (o, u) e₃ λ w q₃ e₄.
@@ -135,9 +135,9 @@ length_columns (r ∷ rs) (x ∷ w) bs =
     length_columns rs (drop 15 w) (alter r (keeping (column_words (x ∷ w))) bs) ∙ length-alter r (keeping (column_words (x ∷ w))) bs
 
 whole_columns : (o l : Option Rows) (t : Tables) → Whole o t → Whole o (keep_columns o l t)
-whole_columns none l t h = h
-whole_columns (some b) none t h = h
-whole_columns (some b) (some l) t h =
+whole_columns None l t h = h
+whole_columns (Some b) None t h = h
+whole_columns (Some b) (Some l) t h =
     let rs = take b.count (drop b.first t.members) in
     let w = list_at local_table l t in
     let size = length_columns rs w t.bones in
@@ -191,31 +191,31 @@ module _ (sec : Section) (bytes : SectionBytes sec) (room : Room) where
       (whole-kept w₇ (record { bones = refl; members = refl }))
 
   skeleton-whole :
-      (root : ℕ) (s : SkeletonRow) (u : Tables) → read_skeleton sec room root no_rows ≡ done (some s, u) → Whole s.bones u
+      (root : ℕ) (s : SkeletonRow) (u : Tables) → read_skeleton sec room root no_rows ≡ done (Some s, u) → Whole s.bones u
   unfolding read_skeleton skeleton_from find as_kind
   skeleton-whole zero s u e =
-      let q : ◌≡◌ {A = Option SkeletonRow} none (some s) = step_value e in
+      let q : ◌≡◌ {A = Option SkeletonRow} None (Some s) = step_value e in
       let z : ◌≡◌ {A = ℕ} 0 1 = cc in
       absurd (omega arith)
   skeleton-whole (suc a) s u e =
-      gone (read_new_skeleton sec room (suc a) no_rows) _ (some s, u) e λ y p e₁.
-      let q : ◌≡◌ {A = Option SkeletonRow} (some y.0) (some s) = step_value e₁ in
+      gone (read_new_skeleton sec room (suc a) no_rows) _ (Some s, u) e λ y p e₁.
+      let q : ◌≡◌ {A = Option SkeletonRow} (Some y.0) (Some s) = step_value e₁ in
       let i : y.0 ≡ s = cc in
       new-whole (suc a) s u (p ∙ λ j. done (i j, step_tables e₁ j))
 
 -- ---- the bones read, and the table
 
 bones_gathered : (o : Option Rows) (t : Tables) → Whole o t → bones_read o t ≡ t.bones
-bones_gathered none t h = sym h.all
-bones_gathered (some r) t h =
+bones_gathered None t h = sym h.all
+bones_gathered (Some r) t h =
     let n = length t.bones in
     let i : take r.count (drop r.first t.members) ≡ up_from 0 n =
     rw (h.all.0, h.all.1, h.order) (take_all n (up_from 0 n) (omega (arith, length-up_from 0 n))) in
     ap (gather t.bones) i ∙ gathered t.bones
 
 bones-counted : (o : Option Rows) (t : Tables) → Whole o t → part_length o ≡ length t.bones
-bones-counted none t h = sym (ap length h.all)
-bones-counted (some r) t h = h.all.1
+bones-counted None t h = sym (ap length h.all)
+bones-counted (Some r) t h = h.all.1
 
 -- A section that reads: the bones read, from the table that holds their rows.
 pub record BonesRead (o : Option Rows) (u : Tables) : Type 0 where
@@ -228,7 +228,7 @@ pub record BonesRead (o : Option Rows) (u : Tables) : Type 0 where
 
 pub bones_read_lem :
     (sec : Section) → SectionBytes sec → (room : Room) (root : ℕ) (s : SkeletonRow) (u : Tables) →
-    read_skeleton sec room root no_rows ≡ done (some s, u) → BonesRead s.bones u
+    read_skeleton sec room root no_rows ≡ done (Some s, u) → BonesRead s.bones u
 bones_read_lem sec bytes room root s u e =
     let w = skeleton-whole sec bytes room root s u e in
     let all = bones_gathered s.bones u w in

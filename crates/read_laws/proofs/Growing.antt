@@ -5,7 +5,7 @@ use native.Mathlib.Nat.{add-zero}
 use native.Mathlib.Omega.{arith}
 use mathlib.Core.Path.{◌≡◌, refl, sym, ap, subst, ◌∙◌}
 use mathlib.Core.Bool.{Bool, true, false}
-use mathlib.Core.Option.{Option, none, some}
+use Rattle.std.specs.Prelude.{Option, None, Some}
 use mathlib.Core.List.{List, [], ◌∷◌, ◌++◌}
 use lib.Dec.{leb, ltb, eqb}
 use lib.ListN.{length, get_or, take, drop, length-append}
@@ -111,20 +111,20 @@ module _ (sec : Section) (room : Room) where
       (at va : ℕ) (t u : Tables) (n : Option Place) → Unread at t.pool → read_name sec room va t ≡ done (n, u) → NameRead at t n u
   unfolding read_name name_from
   name-read at zero t u n h e =
-      let f : PlaceFits none = tt in
+      let f : PlaceFits None = tt in
       rw (← step_value e, ← step_tables e)
       (record { kept = record { bones = refl; members = refl }; unread = h; fits = f })
   name-read at (suc a) t u n h e = gone (read_as string (suc a) t) _ (n, u) e λ r p e₁. from r p e₁
     where
       from :
           (r : Option Rows) → read_as string (suc a) t ≡ done r → name_from sec room (suc a) t r ≡ done (n, u) → NameRead at t n u
-      from (some s) p e₁ =
+      from (Some s) p e₁ =
           let f = found_again string (find (suc a) t.pool) s p in
           let low : 0 < f.row.stored.first = (h.each (suc a) f.row f.here).names f.same in
           let pos : 0 < s.first = subst (λ (x : Rows). 0 < x.first) f.stored low in
           rw (← step_value e₁, ← step_tables e₁)
           (record { kept = record { bones = refl; members = refl }; unread = h; fits = λ z. omega (arith, z, pos) })
-      from none p e₁ =
+      from None p e₁ =
           gone (name_at sec (suc a)) _ (n, u) e₁ λ l q₁ e₂.
           gone (put room (suc a) string (rows l.address l.size) t) _ (n, u) e₂ λ t'' q₂ e₃.
           let i = name-address sec (suc a) l q₁ in
@@ -158,10 +158,10 @@ module _ (sec : Section) (bytes : SectionBytes sec) (room : Room) where
   bone_read_lem va t u r h e = gone (read_as bone va t) _ (r, u) e λ o p e₁. from o p e₁
     where
       from : (o : Option Rows) → read_as bone va t ≡ done o → bone_from sec room va t o ≡ done (r, u) → BoneRead va t r u
-      from (some s) p e₁ =
+      from (Some s) p e₁ =
           let f = found_again bone (find va t.pool) s p in
           absurd (omega (arith, (h.each va f.row f.here).bones f.same))
-      from none p e₁ =
+      from None p e₁ =
           gone (part sec va 70) _ (r, u) e₁ λ b q₁ e₂.
           gone (read_name sec room (name_field b) t) _ (r, u) e₂ λ n q₂ e₃.
           gone (need 1 (ltb (length n.1.bones) room.bones)) _ (r, u) e₃ λ w q₃ e₄.

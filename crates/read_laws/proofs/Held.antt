@@ -2,7 +2,7 @@
 use Prim.Native.Nat.{ℕ, ◌-◌, ◌*◌, ◌≤◌}
 use native.Mathlib.Omega.{arith}
 use mathlib.Core.Path.{◌≡◌, refl, sym, ap, ◌∙◌}
-use mathlib.Core.Option.{Option, none, some}
+use Rattle.std.specs.Prelude.{Option, None, Some}
 use mathlib.Core.List.{List, [], flat_map}
 use lib.ListN.{length, take, drop, replicate, length-append}
 use lib.Seq.{take-append-le}
@@ -27,30 +27,30 @@ use Rattle.read_laws.proofs.Standing.{Front, Standing, standing}
 
 -- the words of some rows
 abbrev rows_of : Option Rows → List ℕ → List ℕ
-rows_of none w = []
-rows_of (some r) w = take r.count (drop r.first w)
+rows_of None w = []
+rows_of (Some r) w = take r.count (drop r.first w)
 
 -- the first words of a table
 words_in_lem :
     {t : List ℕ} (o : Option Rows) (w : List ℕ) (n : ℕ) → Front o (length w) → t ≡ laid w n → rows_of o w ≡ take (part_length o) t
-words_in_lem none w n h e = refl
-words_in_lem (some r) w n h e = rw (h.0, e) (sym (take-append-le r.count w (replicate (n - length w) 0) h.1))
+words_in_lem None w n h e = refl
+words_in_lem (Some r) w n h e = rw (h.0, e) (sym (take-append-le r.count w (replicate (n - length w) 0) h.1))
 
 list_in :
     {t : List ℕ} (l : ListTable) (o : Option Rows) (u : Tables) (n : ℕ) → Front o (length (words_in l u.lists)) →
     t ≡ laid (words_in l u.lists) n → list_read l o u ≡ take (part_length o) t
-list_in l none u n h e = refl
-list_in l (some r) u n h e = words_in_lem (some r) (words_in l u.lists) n h e
+list_in l None u n h e = refl
+list_in l (Some r) u n h e = words_in_lem (Some r) (words_in l u.lists) n h e
 
 chains_in :
     {b e : List ℕ} (o : Option Rows) (u : Tables) (lb le m n : ℕ) → Front o (length u.chained.buckets) →
     b ≡ laid u.chained.buckets lb → e ≡ laid (flat_map entry_words u.chained.entries) le → m ≡ n →
     chains_read m o u ≡ chains_along (entries_in e) n (take (part_length o) b)
 unfolding chains_along
-chains_in none u lb le m n h eb ee em = refl
-chains_in {b} {e} (some r) u lb le m n h eb ee em =
+chains_in None u lb le m n h eb ee em = refl
+chains_in {b} {e} (Some r) u lb le m n h eb ee em =
     rw em
-    (ap (chains_along u.chained.entries n) (words_in_lem (some r) u.chained.buckets lb h eb)
+    (ap (chains_along u.chained.entries n) (words_in_lem (Some r) u.chained.buckets lb h eb)
     ∙ sym (chains-held u.chained.entries le ee n (take r.count b)))
 
 -- ---- all of it
@@ -63,7 +63,7 @@ read_same e₁ e₂ e₃ e₄ e₅ e₆ = λ i.
 
 module _
     (sec : Section) (bytes : SectionBytes sec) (room : Room) (root : ℕ) (s : SkeletonRow) (u : Tables)
-    (reads : read_skeleton sec room root no_rows ≡ done (some s, u))
+    (reads : read_skeleton sec room root no_rows ≡ done (Some s, u))
   where
     stands : Standing s u
     stands = standing sec bytes room root s u reads

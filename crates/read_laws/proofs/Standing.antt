@@ -3,7 +3,7 @@
 use Prim.Native.Nat.{ℕ, zero, suc, ◌≤◌, ◌<◌}
 use native.Mathlib.Omega.{arith}
 use mathlib.Core.Path.{◌≡◌, refl, sym, ap, subst, ◌∙◌}
-use mathlib.Core.Option.{Option, none, some}
+use Rattle.std.specs.Prelude.{Option, None, Some}
 use mathlib.Core.List.Memᴰ
 use mathlib.Core.List.{[], Memᴰ}
 use lib.ListN.{length}
@@ -34,8 +34,8 @@ use Rattle.read_laws.proofs.Growing.{done-is, part_bytes, field_fits}
 
 -- what stands are the first rows
 abbrev pub Front : Option Rows → ℕ → Type 0
-Front none n = Unit {0}
-Front (some r) n = (r.first ≡ 0) × (r.count ≤ n)
+Front None n = Unit {0}
+Front (Some r) n = (r.first ≡ 0) × (r.count ≤ n)
 
 pub record Standing (s : SkeletonRow) (u : Tables) : Type 0 where
   pub buckets : Front s.buckets (length u.chained.buckets)
@@ -75,8 +75,8 @@ module _ (sec : Section) (room : Room) where
   list-front :
       (l : ListTable) (va n : ℕ) (t u : Tables) (o : Option Rows) → words_in l t.lists ≡ [] → ListsStand t →
       read_list sec room l va n t ≡ done (o, u) → Front o (length (words_in l u.lists))
-  list-front l va n t u none z h e = tt
-  list-front l va n t u (some r) z h e = let f = list-first sec room l t z va n r u h e in (f.zero, f.within)
+  list-front l va n t u None z h e = tt
+  list-front l va n t u (Some r) z h e = let f = list-first sec room l t z va n r u h e in (f.zero, f.within)
 
 -- ---- the whole
 
@@ -176,14 +176,14 @@ module _ (sec : Section) (bytes : SectionBytes sec) (room : Room) (root : ℕ) w
 
 pub standing :
     (sec : Section) → SectionBytes sec → (room : Room) (root : ℕ) (s : SkeletonRow) (u : Tables) →
-    read_skeleton sec room root no_rows ≡ done (some s, u) → Standing s u
+    read_skeleton sec room root no_rows ≡ done (Some s, u) → Standing s u
 unfolding read_skeleton skeleton_from find as_kind
 standing sec bytes room zero s u e =
-    let q : ◌≡◌ {A = Option SkeletonRow} none (some s) = step_value e in
+    let q : ◌≡◌ {A = Option SkeletonRow} None (Some s) = step_value e in
     let z : ◌≡◌ {A = ℕ} 0 1 = cc in
     absurd (omega arith)
 standing sec bytes room (suc a) s u e =
-    gone (read_new_skeleton sec room (suc a) no_rows) _ (some s, u) e λ y p e₁.
-    let q₀ : ◌≡◌ {A = Option SkeletonRow} (some y.0) (some s) = step_value e₁ in
+    gone (read_new_skeleton sec room (suc a) no_rows) _ (Some s, u) e λ y p e₁.
+    let q₀ : ◌≡◌ {A = Option SkeletonRow} (Some y.0) (Some s) = step_value e₁ in
     let q₁ : y.0 ≡ s = cc in
     new-standing sec bytes room (suc a) s u (p ∙ λ i. done (q₁ i, step_tables e₁ i))

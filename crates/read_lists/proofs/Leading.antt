@@ -2,7 +2,7 @@
 -- "Finding bytes"). In order: the two tables of a kind; the four ways; the list to be copied. Assumes nothing.
 use mathlib.Core.Path.{◌≡◌, refl, ap, ◌∙◌}
 use mathlib.Core.Bool.{Bool, true, false}
-use mathlib.Core.Option.{Option, none, some}
+use Rattle.std.specs.Prelude.{Option, None, Some}
 use Prim.Native.Nat.{ℕ, zero, suc, ◌+◌, ◌≤◌}
 use native.Mathlib.Omega.{arith}
 use borrow.Author.Tests.{eqb-true, eqb-false}
@@ -44,16 +44,16 @@ twin_of children_table children_table k n = absurd (n refl)
 
 -- a list that was read, as the list that stands
 abbrev pub stands : Step Rows → Step (Option Rows)
-stands g = g >>= λ x. done (some x.0, x.1)
+stands g = g >>= λ x. done (Some x.0, x.1)
 
 -- a list that was read, pooled
 abbrev pub pooling : Room → ListTable → ℕ → Step Rows → Step (Option Rows)
-pooling room l va g = g >>= λ x. put room va (list l) x.0 x.1 >>= λ t. done (some x.0, t)
+pooling room l va g = g >>= λ x. put room va (list l) x.0 x.1 >>= λ t. done (Some x.0, t)
 
 module _ (s : Section) (room : Room) (l : ListTable) (va n : ℕ) (u : Tables) where
   -- what each way comes to
   abbrev pub goes : Way → Step (Option Rows)
-  goes (Again f c) = done (some (rows f c), u)
+  goes (Again f c) = done (Some (rows f c), u)
   goes (Copy f c) = stands (store_list s room l (list_at (twin l) (rows f c) u) u)
   goes Over = stands (read_new s room l va n u)
   goes New = pooling room l va (read_new s room l va n u)
@@ -80,8 +80,8 @@ module _ (s : Section) (room : Room) (l : ListTable) (va n : ℕ) (u : Tables) w
 
   from_goes : (f : Option Pooled) → list_from s room l va n u f ≡ goes (way_of l f)
   unfolding list_from
-  from_goes none = refl
-  from_goes (some p) = kind_goes p.kind p.stored
+  from_goes None = refl
+  from_goes (Some p) = kind_goes p.kind p.stored
 
   pub list_goes : (va ≡ 0 → ⊥) → read_list s room l va n u ≡ goes (way_of l (find va u.pool))
   unfolding read_list
@@ -122,5 +122,5 @@ pub copy_found :
 copy_found l va u {f} {c} h e = by (find va u.pool) refl e
   where
     by : (o : Option Pooled) → find va u.pool ≡ o → way_of l o ≡ Copy f c → f + c ≤ length (words_in (twin l) u.lists)
-    by none d w = let z : ◌≡◌ {A = ℕ} 0 1 = cc in absurd (omega arith)
-    by (some p) d w = copy_inside l u.lists p.kind p.stored w (h.stand va p d)
+    by None d w = let z : ◌≡◌ {A = ℕ} 0 1 = cc in absurd (omega arith)
+    by (Some p) d w = copy_inside l u.lists p.kind p.stored w (h.stand va p d)

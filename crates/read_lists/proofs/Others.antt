@@ -1,7 +1,7 @@
 -- The steps of reading that read no list leave the words of the list tables as they are and the lists of the pool standing:
 -- chains and buckets, names, bones, the bones block, the kept columns. For the call that reads them first. Assumes nothing.
 use mathlib.Core.Path.{◌≡◌, refl, sym, ap, subst, ◌∙◌}
-use mathlib.Core.Option.{Option, none, some}
+use Rattle.std.specs.Prelude.{Option, None, Some}
 use mathlib.Core.List.{List, [], ◌∷◌}
 use Prim.Native.Nat.{ℕ, zero, suc, ◌+◌, ◌-◌, ◌*◌}
 use native.Mathlib.Omega.{arith}
@@ -62,9 +62,9 @@ spared_step : {A : Type 0} {a b : A} {t u : Tables} → ◌≡◌ {A = Res (A ×
 spared_step {t = t} e = subst (Spared t) (step_tables e) (spared_none t)
 
 pub columns_spared : (o l : Option Rows) (t : Tables) → Spared t (keep_columns o l t)
-columns_spared none l t = spared_none t
-columns_spared (some b) none t = spared_none t
-columns_spared (some b) (some l) t = record { words = refl; lists = λ h. record { stand = h.stand } }
+columns_spared None l t = spared_none t
+columns_spared (Some b) None t = spared_none t
+columns_spared (Some b) (Some l) t = record { words = refl; lists = λ h. record { stand = h.stand } }
 
 spared_done : {t u v : Tables} → Spared t u → ◌≡◌ {A = Res Tables} (done u) (done v) → Spared t v
 spared_done {t} {u} {v} h e = let is : u ≡ v = cc in subst (Spared t) is h
@@ -75,8 +75,8 @@ module _ (s : Section) (room : Room) where
   link_spared :
       (next : ℕ → Tables → Res Tables) (b : List ℕ) (n : ℕ) (t u : Tables) (l : Option ℕ) →
       ((a : ℕ) (v : Tables) → next a v ≡ done u → Spared v u) → chain_from s room next b n t l ≡ done u → Spared t u
-  link_spared next b n t u (some k) h e = spared_done (spared_entry (entry_row (entry_tag b) (entry_position b) k) t) e
-  link_spared next b n t u none h e =
+  link_spared next b n t u (Some k) h e = spared_done (spared_entry (entry_row (entry_tag b) (entry_position b) k) t) e
+  link_spared next b n t u None h e =
       let r = entry_row (entry_tag b) (entry_position b) (suc (suc n)) in
       then (spared_entry r t) (h (entry_next b) (add_entry r t) e)
 
@@ -96,8 +96,8 @@ module _ (s : Section) (room : Room) where
   head_spared va k t u e = gone (link_to va t) _ (k, u) e λ l q e₁. from l e₁
     where
       from : (l : Option ℕ) → head_from s room va t l ≡ done (k, u) → Spared t u
-      from (some n) e₁ = spared_step e₁
-      from none e₁ =
+      from (Some n) e₁ = spared_step e₁
+      from None e₁ =
           gone (read_chain s room (room.entries - length t.chained.entries) va t) _ (k, u) e₁ λ t'' q e₂.
           then (chain_spared (room.entries - length t.chained.entries) va t t'' q) (spared_step e₂)
 
@@ -117,8 +117,8 @@ module _ (s : Section) (room : Room) where
   bucket-array_spared (suc a) n t u o e = gone (read_as buckets (suc a) t) _ (o, u) e λ r p e₁. from r e₁
     where
       from : (r : Option Rows) → buckets_from s room (suc a) n t r ≡ done (o, u) → Spared t u
-      from (some x) e₁ = spared_step e₁
-      from none e₁ =
+      from (Some x) e₁ = spared_step e₁
+      from None e₁ =
           gone (array s (suc a) (8 * n)) _ (o, u) e₁ λ b q e₂.
           gone (read_buckets s room (words 8 n b) t) _ (o, u) e₂ λ t'' q₂ e₃.
           gone (put room (suc a) buckets (rows (length t.chained.buckets) n) t'') _ (o, u) e₃ λ t''' q₃ e₄.
@@ -133,8 +133,8 @@ module _ (s : Section) (room : Room) where
   name_spared (suc a) t u o e = gone (read_as string (suc a) t) _ (o, u) e λ r p e₁. from r e₁
     where
       from : (r : Option Rows) → name_from s room (suc a) t r ≡ done (o, u) → Spared t u
-      from (some x) e₁ = spared_step e₁
-      from none e₁ =
+      from (Some x) e₁ = spared_step e₁
+      from None e₁ =
           gone (name_at s (suc a)) _ (o, u) e₁ λ p q e₂.
           gone (put room (suc a) string (rows p.address p.size) t) _ (o, u) e₂ λ t'' q₂ e₃.
           then (spared_put room (suc a) string (rows p.address p.size) t t'' tt q₂) (spared_step e₃)
@@ -144,8 +144,8 @@ module _ (s : Section) (room : Room) where
   bone_spared va k t u e = gone (read_as bone va t) _ (k, u) e λ r p e₁. from r e₁
     where
       from : (r : Option Rows) → bone_from s room va t r ≡ done (k, u) → Spared t u
-      from (some x) e₁ = spared_step e₁
-      from none e₁ =
+      from (Some x) e₁ = spared_step e₁
+      from None e₁ =
           gone (part s va 70) _ (k, u) e₁ λ b q e₂.
           gone (read_name s room (name_field b) t) _ (k, u) e₂ λ x q₂ e₃.
           gone (need 1 (ltb (length x.1.bones) room.bones)) _ (k, u) e₃ λ y q₃ e₄.
@@ -168,8 +168,8 @@ module _ (s : Section) (room : Room) where
   block_spared (suc a) n t u o e = gone (read_as block (suc a) t) _ (o, u) e λ r p e₁. from r e₁
     where
       from : (r : Option Rows) → block_from s room (suc a) n t r ≡ done (o, u) → Spared t u
-      from (some x) e₁ = spared_step e₁
-      from none e₁ =
+      from (Some x) e₁ = spared_step e₁
+      from None e₁ =
           gone (cursor s (suc a)) _ (o, u) e₁ λ c q₁ e₂.
           gone (read_bones s room n (suc a + 16) t) _ (o, u) e₂ λ t'' q₂ e₃.
           gone (put room (suc a) block (rows (length t.members) n) t'') _ (o, u) e₃ λ t''' q₃ e₄.

@@ -1,6 +1,6 @@
 -- What a caller learns of an answer: what the reading of the list gives, and what stands in the tables then. Assumes nothing.
 use mathlib.Core.Path.{◌≡◌, sym, ap, ◌∙◌}
-use mathlib.Core.Option.{Option, none, some}
+use Rattle.std.specs.Prelude.{Option, None, Some}
 use mathlib.Core.List.{List}
 use Prim.Native.Nat.{ℕ}
 use native.Mathlib.Omega.{arith}
@@ -41,8 +41,8 @@ module _
     pub list-refused : {x : Refusal} → r ≡ Refused x → g ≡ refused (number x)
     list-refused e = refused_by l g (sym (ap (meant_listed used) e) ∙ c.answer)
 
-    pub list_absent : r ≡ Absent → Gives l n g none used t₀ t p
+    pub list_absent : r ≡ Absent → Gives l n g None used t₀ t p
     list_absent e = gives_by g (sym (ap (meant_listed used) e) ∙ c.answer) c.tables
 
-    pub list_at : {f k m : ℕ} → r ≡ At f k m → Gives l n g (some (rows f k)) m t₀ t p
+    pub list_at : {f k m : ℕ} → r ≡ At f k m → Gives l n g (Some (rows f k)) m t₀ t p
     list_at e = gives_by g (sym (ap (meant_listed used) e) ∙ c.answer) c.tables

@@ -3,7 +3,7 @@
 -- `Leading`. Assumes nothing.
 use mathlib.Core.Path.{◌≡◌, refl, sym, ap, subst, ◌∙◌}
 use mathlib.Core.Bool.{Bool, true, false}
-use mathlib.Core.Option.{Option, some}
+use Rattle.std.specs.Prelude.{Option, Some}
 use mathlib.Core.List.{List}
 use Prim.Native.Nat.{ℕ, ◌+◌, ◌-◌, ◌*◌, ◌/◌, ◌≤◌}
 use native.Mathlib.Nat.{one-mul, mul_assoc}
@@ -69,7 +69,7 @@ module _
     abbrev W : List ℕ
     W = words_in l u.lists
 
-    comes_again : (f c : ℕ) → ListComes l room.pool (done (some (rows f c), u)) used (At f c used) t₀ t₀ p₀
+    comes_again : (f c : ℕ) → ListComes l room.pool (done (Some (rows f c), u)) used (At f c used) t₀ t₀ p₀
     comes_again f c = record { answer = rw h.size refl; tables = record { own = h.own; pool = h.pool } }
 
     module _ (w : List ℕ) {r : Listed} {t : List ℕ} where
@@ -127,7 +127,7 @@ module _ {l : ListTable} {used : ℕ} {r : Listed} {t₀ t p₀ p : List ℕ} (r
   put_by :
       (f c z : ℕ) (v : Tables) (d : Stored) → Stores (pool_row va (list l) f c) d p₀ p → r ≡ listed_by d (At f c z) →
       z ≡ length (words_in l v.lists) → HoldsList l room.pool v t₀ t p₀ →
-      ListComes l room.pool (put room va (list l) (rows f c) v >>= λ x. done (some (rows f c), x)) used r t₀ t p
+      ListComes l room.pool (put room va (list l) (rows f c) v >>= λ x. done (Some (rows f c), x)) used r t₀ t p
   put_by f c z v Done w e q h =
       rw (tables-done room v va (list l) (rows f c) w h.pool refl)
       (record { answer = rw (e, q) refl; tables = record { own = h.own; pool = put-done w h.pool refl } })

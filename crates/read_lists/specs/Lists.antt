@@ -1,6 +1,6 @@
 -- The four list tables by the lists read into them, their rows, and our answers as the definitions have them. Definitions only.
 use Rattle.std.specs.Prelude.{ℕ, ◌+◌, ◌/◌, ◌≤◌, ◌≡◌, List, length}
-use Rattle.std.proofs.Math.Option.{Option, none, some}
+use Rattle.std.specs.Prelude.{Option, None, Some}
 use Rattle.format.specs.Result.{Res, refused, done}
 use Rattle.format.specs.Refusal.{number}
 use Rattle.format.specs.Tables.{ListTable, inverse_table, local_table, parents_table, children_table}
@@ -37,8 +37,8 @@ rows_in children_table t = length t
 
 -- what an answer gives, where `used` words were used before: the list, and the words used after it; or the refusal's number
 abbrev pub meant_listed : ℕ → Listed → Res (Option Rows × ℕ)
-meant_listed used Absent = done (none, used)
-meant_listed used (At f c u) = done (some (rows f c), u)
+meant_listed used Absent = done (None, used)
+meant_listed used (At f c u) = done (Some (rows f c), u)
 meant_listed used (Refused r) = refused (number r)
 
 -- ---- the lists that the pool gives
@@ -55,4 +55,4 @@ Inside string r t = Unit {0}
 
 -- every list that the pool gives lies in its table
 pub record ListsStand (t : Tables) : Type 0 where
-  pub stand : (a : ℕ) (p : Pooled) → find a t.pool ≡ some p → Inside p.kind p.stored t.lists
+  pub stand : (a : ℕ) (p : Pooled) → find a t.pool ≡ Some p → Inside p.kind p.stored t.lists

@@ -1,7 +1,7 @@
 -- How a list comes into its table, by what the pool has at its address, and the row that it takes there (docs/FORMAT.md, "Finding
 -- bytes"). Definitions only.
 use Rattle.std.specs.Prelude.{ℕ, ◌≡◌, Bool, true, false, List, eqb}
-use Rattle.std.proofs.Math.Option.{Option, none, some}
+use Rattle.std.specs.Prelude.{Option, None, Some}
 use Rattle.format.specs.Tables.{ListTable, table_number, Kind, skeleton, buckets, entry, block, bone, string, list, same_kind}
 use Rattle.format.specs.Tables.{Rows, Pooled, find}
 use Rattle.format.specs.declared.Refusal.TheVariants.{TableTooShort}
@@ -32,8 +32,8 @@ way_over l bone s = Over
 way_over l string s = Over
 
 abbrev pub way_of : ListTable → Option Pooled → Way
-way_of l none = New
-way_of l (some p) = way_over l p.kind p.stored
+way_of l None = New
+way_of l (Some p) = way_over l p.kind p.stored
 
 pub record Leads (t : List ℕ) (l : ListTable) (va : ℕ) (r : Way) : Type 0 where
   pub leads : {n : ℕ} {q : List Pooled} → Represents t n q → r ≡ way_of l (find va q)

@@ -1,7 +1,7 @@
 -- What reading a list promises, over any tables of the format that the lent tables stand for (docs/FORMAT.md, "Finding bytes").
 -- Definitions only.
 use Rattle.std.specs.Prelude.{ℕ, ◌≡◌, List, length}
-use Rattle.std.proofs.Math.Option.{Option}
+use Rattle.std.specs.Prelude.{Option}
 use Rattle.format.specs.Result.{Res, refused, done}
 use Rattle.format.specs.Rows.{laid}
 use Rattle.format.specs.Section.{Section}

@@ -57,7 +57,7 @@ fn fields_of(r: JointsRead) -> [usize; 8] {
                 limit_count(t),
             ]
         }
-        JointsRead::Refused(e) => answer_alone(format::code(e)),
+        JointsRead::Refused(e) => answer_alone(u32::from(e)),
     }
 }
 
@@ -92,7 +92,7 @@ const SECTION: u16 = 4;
 fn written_as(w: JointsWritten, answer: u32, size: usize) -> bool {
     match w {
         JointsWritten::Done(n) => answer == buffers::DONE && n == size,
-        JointsWritten::Refused(e) => answer == format::code(e),
+        JointsWritten::Refused(e) => answer == u32::from(e),
     }
 }
 
@@ -141,7 +141,7 @@ const BYTES: u16 = 3;
 fn record_written_as(w: RecordWritten, answer: u32) -> bool {
     match w {
         RecordWritten::Done => answer == buffers::DONE,
-        RecordWritten::Refused(e) => answer == format::code(e),
+        RecordWritten::Refused(e) => answer == u32::from(e),
     }
 }
 

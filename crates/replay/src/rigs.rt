@@ -27,7 +27,7 @@ const PENDING: u16 = 9;
 fn tagged_as(r: Tagged, answer: u32, count: usize) -> bool {
     match r {
         Tagged::Done(n) => answer == buffers::DONE && n == count,
-        Tagged::Refused(e) => answer == format::code(e),
+        Tagged::Refused(e) => answer == u32::from(e),
     }
 }
 
@@ -50,7 +50,7 @@ pub(crate) fn tags_agree(case: &[u8], n: usize, answer: u32) -> bool {
 fn indexed_as(r: Indexed, answer: u32, count: usize) -> bool {
     match r {
         Indexed::Done(n) => answer == buffers::DONE && n == count,
-        Indexed::Refused(e) => answer == format::code(e),
+        Indexed::Refused(e) => answer == u32::from(e),
     }
 }
 
@@ -80,7 +80,7 @@ pub(crate) fn indices_agree(case: &[u8], n: usize, answer: u32) -> bool {
 fn transformed_as(r: Transformed, answer: u32) -> bool {
     match r {
         Transformed::Done => answer == buffers::DONE,
-        Transformed::Refused(e) => answer == format::code(e),
+        Transformed::Refused(e) => answer == u32::from(e),
     }
 }
 

@@ -146,7 +146,7 @@ fn looked_as(r: Looked, answer: u32, position: u32) -> bool {
     match r {
         Looked::Found(p) => answer == buffers::DONE && p == position,
         Looked::Nothing => answer == rig_answers::NOTHING,
-        Looked::Refused(e) => answer == format::code(e),
+        Looked::Refused(e) => answer == u32::from(e),
     }
 }
 

@@ -1,7 +1,7 @@
 -- A status and a count say what the answer was. Assumes nothing.
 use Prim.Native.Nat.{ℕ}
 use mathlib.Core.Path.{◌≡◌, refl, sym, ap, ◌∙◌}
-use mathlib.Core.Option.{Option, none, some}
+use Rattle.std.specs.Prelude.{Option, None, Some}
 use mathlib.Core.List.{List, [], ◌∷◌, map}
 use lib.ListN.{replicate, length-map}
 use Rattle.format.specs.Result.{Res, refused, done, status}
@@ -36,19 +36,19 @@ record_told (done a) e f = e ∙ ap status f
 -- whether a list stands, and how many limits it has, by the number of its rows
 module _ {A : Type 0} (row : List ℕ → A) (k : ℕ) (t : List ℕ) where
   stands_in : (o : Option ℕ) → present o ≡ present (limits_in (λ n. map row (limit_rows k n t)) o)
-  stands_in none = refl
-  stands_in (some n) = refl
+  stands_in None = refl
+  stands_in (Some n) = refl
 
   count_in : (o : Option ℕ) → given (done o) ≡ limit_count (limits_in (λ n. map row (limit_rows k n t)) o)
-  count_in none = refl
-  count_in (some n) = sym (length-map (limit_rows k n t) row ∙ length-limit_rows k n t)
+  count_in None = refl
+  count_in (Some n) = sym (length-map (limit_rows k n t) row ∙ length-limit_rows k n t)
 
 -- ---- each answer of a reading, with the tables r and t behind it
 
 module _ {a : JointsRead} (r t : List ℕ) {w : Res (Option Joints)} where
   pub nothing_read : a ≡ answer.Nothing → meant_joints a r t ≡ w → (100 ≡ read_status w) × (replicate 7 0 ≡ joints_fields w)
   nothing_read e m =
-      let x : done none ≡ w = sym (ap (λ q. meant_joints q r t) e) ∙ m in
+      let x : done None ≡ w = sym (ap (λ q. meant_joints q r t) e) ∙ m in
       (ap read_status x, ap joints_fields x)
 
   pub refused-read :

@@ -51,7 +51,7 @@ pub extern "C" fn rig_build_bone_tags(
         }
         Tagged::Refused(r) => {
             *count = 0;
-            format::code(r)
+            u32::from(r)
         }
     }
 }
@@ -87,7 +87,7 @@ pub extern "C" fn rig_build_indices(
         }
         Indexed::Refused(r) => {
             *count = 0;
-            format::code(r)
+            u32::from(r)
         }
     }
 }
@@ -109,6 +109,6 @@ pub extern "C" fn rig_build_transformations(
 {
     match derive_matrices::matrices::build_transformations(bones, n, inverse, local) {
         Transformed::Done => 0,
-        Transformed::Refused(r) => format::code(r),
+        Transformed::Refused(r) => u32::from(r),
     }
 }

@@ -80,7 +80,7 @@ pub extern "C" fn rig_joints_read(
         }
         JointsRead::Refused(r) => {
             *fields = [0; 7];
-            format::code(r)
+            u32::from(r)
         }
     }
 }
@@ -110,7 +110,7 @@ pub extern "C" fn rig_joints_write(
         }
         JointsWritten::Refused(e) => {
             *count = 0;
-            format::code(e)
+            u32::from(e)
         }
     }
 }
@@ -157,7 +157,7 @@ fn record_status(w: RecordWritten) -> u32
 {
     match w {
         RecordWritten::Done => 0,
-        RecordWritten::Refused(e) => format::code(e),
+        RecordWritten::Refused(e) => u32::from(e),
     }
 }
 

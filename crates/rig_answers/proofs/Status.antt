@@ -3,7 +3,7 @@ use mathlib.Core.Path.{◌≡◌, refl, sym, subst}
 use Prim.Native.Nat.{ℕ}
 use native.Mathlib.Omega.{arith}
 use mathlib.Core.Bool.{Bool, true, false, not}
-use mathlib.Core.Option.{Option, none, some}
+use Rattle.std.specs.Prelude.{Option, None, Some}
 use mathlib.Core.List.{List}
 use lib.Dec.{T}
 use Rattle.format.specs.Result.{Res, refused, done}
@@ -21,7 +21,7 @@ module _ (ns : List ℕ) (no0 : T (not (one_of 0 ns))) (no100 : T (not (one_of 1
   not_listed m n h e k = both (one_of m ns) h (subst (λ x. T (one_of x ns)) (sym e) k)
 
   pub tells : {A : Type 0} (w : Res (Option A)) → RefusesOnly ns w → Tells ns w (read_status w)
-  tells (done (some a)) h =
+  tells (done (Some a)) h =
       record {
         result = (λ e. record { value = a; is = refl }, λ e. refl);
         nothing = (λ e. absurd (omega (arith, e)), λ e. let z : ◌≡◌ {A = ℕ} 0 1 = cc in absurd (omega arith));
@@ -30,7 +30,7 @@ module _ (ns : List ℕ) (no0 : T (not (one_of 0 ns))) (no100 : T (not (one_of 1
           λ p. absurd (not_listed 0 n no0 p.0 p.1),
         );
       }
-  tells (done none) h =
+  tells (done None) h =
       record {
         result = (λ e. absurd (omega (arith, e)), λ r. let q = r.is in let z : ◌≡◌ {A = ℕ} 0 1 = cc in absurd (omega arith));
         nothing = (λ e. refl, λ e. refl);

@@ -1,6 +1,6 @@
 -- What a status tells of every call, also of one that never gives none. Assumes nothing.
 use mathlib.Core.Path.{◌≡◌, refl, subst}
-use mathlib.Core.Option.{some}
+use Rattle.std.specs.Prelude.{Some}
 use mathlib.Core.List.{List}
 use Prim.Native.Nat.{ℕ}
 use Rattle.format.specs.Result.{Res, refused, done, status}
@@ -11,7 +11,7 @@ use Rattle.rig_answers.specs.Status.{sure, Tells, Statuses}
 use Rattle.rig_answers.proofs.Status.{tells}
 
 sure-only : {A : Type 0} (ns : List ℕ) (w : Res A) → RefusesOnly ns w → RefusesOnly ns (sure w)
-sure-only ns (done a) h = only-done (some a)
+sure-only ns (done a) h = only-done (Some a)
 sure-only ns (refused c) h = only-refused c (h.only c refl)
 
 sure-status : {A : Type 0} (w : Res A) → read_status (sure w) ≡ status w

@@ -1,7 +1,7 @@
 -- What is told of a section is what the calls answer. Assumes nothing.
 use Prim.Native.Nat.{ℕ}
 use mathlib.Core.Path.{◌≡◌, ap, ◌∙◌}
-use mathlib.Core.Option.{Option, some}
+use Rattle.std.specs.Prelude.{Option, Some}
 use mathlib.Core.List.{List, [], ◌∷◌}
 use Rattle.format.specs.Result.{Res, done, status}
 use Rattle.format.specs.Layout.{Bytes}
@@ -37,7 +37,7 @@ pub fields_told :
     (s : Skeleton) {b₁ n₁ b₂ n₂ b₃ n₃ b₄ n₄ b₅ n₅ b₆ n₆ : ℕ} → PartTold s.buckets b₁ n₁ → PartTold s.bones b₂ n₂ →
     PartTold s.inverse b₃ n₃ → PartTold s.local b₄ n₄ → PartTold s.parents b₅ n₅ → PartTold s.children b₆ n₆ →
     s.kind ∷ s.free.x ∷ s.free.y ∷ s.free.z ∷ s.free.w ∷ s.bucket_count ∷ s.bone_count ∷ s.child_count ∷
-    b₁ ∷ n₁ ∷ b₂ ∷ n₂ ∷ b₃ ∷ n₃ ∷ b₄ ∷ n₄ ∷ b₅ ∷ n₅ ∷ b₆ ∷ n₆ ∷ [] ≡ skeleton_fields (done (some (meant_skeleton s)))
+    b₁ ∷ n₁ ∷ b₂ ∷ n₂ ∷ b₃ ∷ n₃ ∷ b₄ ∷ n₄ ∷ b₅ ∷ n₅ ∷ b₆ ∷ n₆ ∷ [] ≡ skeleton_fields (done (Some (meant_skeleton s)))
 fields_told s p q i l a c =
     λ j.
     s.kind ∷ s.free.x ∷ s.free.y ∷ s.free.z ∷ s.free.w ∷ s.bucket_count ∷ s.bone_count ∷ s.child_count ∷

@@ -1,6 +1,6 @@
 -- What the exports say of a section that is read, written, looked up in, searched or checked, in numbers. Definitions only.
 use Rattle.std.specs.Prelude.{ℕ, ◌≡◌, List, [], ◌∷◌, replicate, get_or}
-use Rattle.std.proofs.Math.Option.{Option, none, some}
+use Rattle.std.specs.Prelude.{Option, None, Some}
 use Rattle.format.specs.Result.{Res, refused, done, status}
 use Rattle.format.specs.Bone.{Words4, words4}
 use Rattle.format.specs.Layout.{Bytes}
@@ -23,8 +23,8 @@ use Rattle.rig_answers.specs.Answer.{counted, read_status, given, number_if, pre
 -- nothing is read
 abbrev pub skeleton_fields : Res (Option SkeletonRow) → List ℕ
 skeleton_fields (refused n) = replicate 20 0
-skeleton_fields (done none) = replicate 20 0
-skeleton_fields (done (some s)) =
+skeleton_fields (done None) = replicate 20 0
+skeleton_fields (done (Some s)) =
     s.kind ∷ s.free.x ∷ s.free.y ∷ s.free.z ∷ s.free.w ∷ s.bucket_count ∷ s.bone_count ∷ s.child_count ∷
     number_if (present s.buckets) ∷ part_length s.buckets ∷ number_if (present s.bones) ∷ part_length s.bones ∷
     number_if (present s.inverse) ∷ part_length s.inverse ∷ number_if (present s.local) ∷ part_length s.local ∷

@@ -3,7 +3,7 @@
 #![tactic(auto)]
 
 ghost use Rattle.std.specs.Prelude.{◌≡◌};
-ghost use Rattle.std.proofs.Math.Option.{some};
+ghost use Rattle.std.specs.Prelude.{Some};
 ghost use Rattle.format.specs.Result.{done, status};
 ghost use Rattle.read.specs.Parts.{meant_part};
 ghost use Rattle.read.specs.Reads.{meant_skeleton, meant_read};
@@ -45,7 +45,7 @@ fn part_length(p: Part) -> usize
 }
 
 fn skeleton_fields(s: Skeleton) -> [usize; 20]
-    ensures { result ≡ skeleton_fields (done (some (meant_skeleton s))) }
+    ensures { result ≡ skeleton_fields (done (Some (meant_skeleton s))) }
 {
     let buckets = s.buckets;
     let bones = s.bones;
@@ -95,7 +95,7 @@ pub fn read_status(r: SkeletonRead) -> u32
     match r {
         SkeletonRead::Nothing => NOTHING,
         SkeletonRead::Read(_) => 0,
-        SkeletonRead::Refused(e) => format::code(e),
+        SkeletonRead::Refused(e) => u32::from(e),
     }
 }
 
@@ -106,7 +106,7 @@ pub fn written_status(r: Written) -> u32
 {
     match r {
         Written::Done(_) => 0,
-        Written::Refused(e) => format::code(e),
+        Written::Refused(e) => u32::from(e),
     }
 }
 
@@ -128,7 +128,7 @@ pub fn looked_status(r: Looked) -> u32
     match r {
         Looked::Found(_) => 0,
         Looked::Nothing => NOTHING,
-        Looked::Refused(e) => format::code(e),
+        Looked::Refused(e) => u32::from(e),
     }
 }
 
@@ -151,7 +151,7 @@ pub fn searched_status(r: Searched) -> u32
     match r {
         Searched::Found(_) => 0,
         Searched::Nothing => NOTHING,
-        Searched::Refused(e) => format::code(e),
+        Searched::Refused(e) => u32::from(e),
     }
 }
 
@@ -174,7 +174,7 @@ pub fn checked_status(r: Checked) -> u32
     match r {
         Checked::Nothing => NOTHING,
         Checked::Accepted(_) => 0,
-        Checked::Refused(e) => format::code(e),
+        Checked::Refused(e) => u32::from(e),
     }
 }
 

@@ -3,7 +3,7 @@
 use Prim.Native.Nat.{ℕ, zero, suc, ◌+◌, ◌*◌, ◌/◌, ◌%◌, ◌^◌, ◌<◌}
 use native.Mathlib.Omega.{arith}
 use mathlib.Core.Path.{◌≡◌, refl, sym, ap}
-use mathlib.Core.Option.{Option, none, some}
+use Rattle.std.specs.Prelude.{Option, None, Some}
 use mathlib.Core.List.{List, [], ◌∷◌, ◌++◌, flat_map, append_assoc}
 use lib.ListN.{length, get_or}
 use lib.Seq.{drop_at}
@@ -18,20 +18,20 @@ use Rattle.rows.specs.Row.{PlaceFits, FitsRow}
 two_words_lem : (v : ℕ) → v % 2 ^ 32 + 2 ^ 32 * (v / 2 ^ 32) ≡ v
 two_words_lem v = omega arith
 
-place_at : (p : Place) → (p.address ≡ 0 → ⊥) → place_of p.address p.size ≡ some p
+place_at : (p : Place) → (p.address ≡ 0 → ⊥) → place_of p.address p.size ≡ Some p
 unfolding place_of
 place_at p h = at p.address refl
   where
-    at : (a : ℕ) → a ≡ p.address → place_of a p.size ≡ some p
+    at : (a : ℕ) → a ≡ p.address → place_of a p.size ≡ Some p
     at zero e = absurd (h (sym e))
-    at (suc a) e = ap (λ (k : ℕ). some (record { address = k; size = p.size })) e
+    at (suc a) e = ap (λ (k : ℕ). Some (record { address = k; size = p.size })) e
 
 place-back :
     (o : Option Place) (rest : List ℕ) → PlaceFits o
     → (let w = place_words o ++ rest in place_of (get_or w 0 0 + 2 ^ 32 * get_or w 1 0) (get_or w 2 0 + 2 ^ 32 * get_or w 3 0)) ≡ o
 unfolding place_of
-place-back none rest h = refl
-place-back (some p) rest h = rw (two_words_lem p.address, two_words_lem p.size) (place_at p h)
+place-back None rest h = refl
+place-back (Some p) rest h = rw (two_words_lem p.address, two_words_lem p.size) (place_at p h)
 
 -- two 16-bit fields from their word
 lower-pair : (a b : ℕ) → a < 65536 → lower (pair a b) ≡ a
@@ -53,8 +53,8 @@ read_back b rest h =
 -- ---- bones one behind the other
 
 length-place_words : (o : Option Place) → length (place_words o) ≡ 4
-length-place_words none = refl
-length-place_words (some p) = refl
+length-place_words None = refl
+length-place_words (Some p) = refl
 
 pub length-bone_words : (b : Bone Place) → length (bone_words b) ≡ bone_width
 unfolding bone_words

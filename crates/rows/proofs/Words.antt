@@ -2,7 +2,7 @@
 use Prim.Native.Nat.{ℕ, zero, suc, ◌+◌, ◌*◌, ◌≤◌}
 use mathlib.Core.Path.{◌≡◌, refl, sym, ◌∙◌}
 use mathlib.Core.List.{List, ◌++◌}
-use mathlib.Core.Option.{Option, none, some}
+use Rattle.std.specs.Prelude.{Option, None, Some}
 use lib.ListN.{length, get_or, get_or-eq_default}
 use lib.Seq.{get_or-drop}
 use Rattle.format.specs.Section as section
@@ -31,5 +31,5 @@ place-some zero n h = absurd (h refl)
 place-some (suc a) n h = refl
 
 pub place_words_lem : (o : Option section.Place) → place_words o ≡ two_words (our_place o).address ++ two_words (our_place o).size
-place_words_lem none = refl
-place_words_lem (some p) = refl
+place_words_lem None = refl
+place_words_lem (Some p) = refl

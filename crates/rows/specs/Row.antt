@@ -1,7 +1,7 @@
 -- The rows of a table of bones, one behind the other from the table's first word on. Words that the table lacks are 0.
 -- Definitions only.
 use Rattle.std.specs.Prelude.{ℕ, ◌+◌, ◌*◌, ◌<◌, ◌≡◌, Bool, cond, List, length, get_or, drop, leb}
-use Rattle.std.proofs.Math.Option.{Option, none, some}
+use Rattle.std.specs.Prelude.{Option, None, Some}
 use Rattle.std.proofs.lemmas.List.Edits.{sets}
 use Rattle.format.specs.Section.{Place}
 use Rattle.format.specs.Bone.{Bone, Words3, Words4, words3, words4}
@@ -34,8 +34,8 @@ put_row t p b = cond (has_row t p) (sets t (bone_width * p) (bone_words b)) t
 
 -- a name's place is not at address 0, which stands for no name
 abbrev pub PlaceFits : Option Place → Type 0
-PlaceFits none = Unit
-PlaceFits (some p) = p.address ≡ 0 → ⊥
+PlaceFits None = Unit
+PlaceFits (Some p) = p.address ≡ 0 → ⊥
 
 -- The lower of two fields in one word has no more than 16 bits, and so has the tag beside the free half.
 pub record FitsRow (b : Bone Place) : Type 0 where

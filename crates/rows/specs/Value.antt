@@ -1,6 +1,6 @@
 -- The structs of the code and the records of `format` that they stand for: `our..` from the format, `meant..` to it.
 -- Definitions only.
-use Rattle.std.proofs.Math.Option.{Option, none, some}
+use Rattle.std.specs.Prelude.{Option, None, Some}
 use Rattle.math.specs.Word.{float_of}
 use Rattle.math.specs.Vector.{vec3, vec4}
 use Rattle.math.specs.declared.Vec3.{Vec3}
@@ -19,8 +19,8 @@ use Rattle.rows.specs.declared.RowStored.TheVariants.{Done, NoRoom}
 
 -- no name is address 0 and size 0
 abbrev pub our_place : Option section.Place → Place
-our_place none = record { address = 0; size = 0 }
-our_place (some p) = record { address = p.address; size = p.size }
+our_place None = record { address = 0; size = 0 }
+our_place (Some p) = record { address = p.address; size = p.size }
 
 unfoldable pub our_bone : format.Bone section.Place → Bone
 our_bone b =

@@ -4,7 +4,7 @@ use native.Mathlib.Numerals.{add-one}
 use native.Mathlib.Omega.{arith}
 use mathlib.Core.Path.{◌≡◌, refl, sym, ap, ◌∙◌}
 use mathlib.Core.Bool.{Bool, true, false, cond}
-use mathlib.Core.Option.{Option, none, some}
+use Rattle.std.specs.Prelude.{Option, None, Some}
 use mathlib.Core.List.{List}
 use lib.Dec.{eqb}
 use lib.ListN.{length, get_or, drop, drop_of_length-le}
@@ -77,11 +77,11 @@ module _ (sec : Section) (key : ℕ) (t : List ℕ) (n : ℕ) where
   row_next :
       (i : ℕ) → i < n →
       first_key key i (drop i names)
-      ≡ cond (has_key key (stored_name sec (row_at t i))) (some i) (first_key key (suc i) (drop (suc i) names))
+      ≡ cond (has_key key (stored_name sec (row_at t i))) (Some i) (first_key key (suc i) (drop (suc i) names))
   unfolding first_key
   row_next i h =
       let l : i < length names = omega (arith, length_column (stored_name sec) n t) in
-      rw (drop-cons names i none l, get_or_column (stored_name sec) none n i t h) refl
+      rw (drop-cons names i None l, get_or_column (stored_name sec) None n i t h) refl
 
   module _ {i : ℕ} (g : Going i) where
     pub going_all : n ≤ i → first_of Nothing ≡ first_key key 0 names
@@ -94,9 +94,9 @@ module _ (sec : Section) (key : ℕ) (t : List ℕ) (n : ℕ) where
         (h : i < n) {p : Place} {r : Bool} (e : p ≡ our_place (row_at t i).name)
         (f : r ≡ has_key key (map_name (name_bytes sec) (place_of p.address p.size)))
       where
-        row-left : {b : Bool} → r ≡ b → cond b (some i) (first_key key (suc i) (drop (suc i) names)) ≡ first_key key 0 names
+        row-left : {b : Bool} → r ≡ b → cond b (Some i) (first_key key (suc i) (drop (suc i) names)) ≡ first_key key 0 names
         row-left q =
-            ap (λ (b : Bool). cond b (some i) (first_key key (suc i) (drop (suc i) names))) (sym q ∙ row-key sec key t i e f)
+            ap (λ (b : Bool). cond b (Some i) (first_key key (suc i) (drop (suc i) names))) (sym q ∙ row-key sec key t i e f)
             ∙ sym (row_next i h) ∙ g.left
 
         pub going_found : r ≡ true → first_of (At i) ≡ first_key key 0 names

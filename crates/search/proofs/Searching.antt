@@ -3,7 +3,7 @@
 use Prim.Native.Nat.{ℕ, ◌-◌}
 use native.Mathlib.Omega.{arith}
 use mathlib.Core.Path.{◌≡◌, refl, sym, ap, ◌∙◌}
-use mathlib.Core.Option.{Option, none, some}
+use Rattle.std.specs.Prelude.{Option, None, Some}
 use mathlib.Core.List.{List, flat_map}
 use lib.ListN.{length, replicate}
 use Rattle.format.specs.Result.{Res, refused, done, ◌>>=◌}
@@ -94,7 +94,7 @@ module _ (sec : Section) (root key : ℕ) (t₀ : Lent) where
 
   -- the table holds the bones read
   bones-held :
-      {t : Lent} (s : Skeleton) → SectionBytes sec → (u : Tables) → reading ≡ done (some (meant_skeleton s), u) → t ≡ read_leaves reading t₀ →
+      {t : Lent} (s : Skeleton) → SectionBytes sec → (u : Tables) → reading ≡ done (Some (meant_skeleton s), u) → t ≡ read_leaves reading t₀ →
       bones_of (part_rows s.bones) t.bones ≡ bones_read (meant_part s.bones) u
   unfolding table_words
   bones-held {t} s bytes u e l =
@@ -108,9 +108,9 @@ module _ (sec : Section) (root key : ℕ) (t₀ : Lent) where
   -- what was read, searched
   pub search-first :
       (r : SkeletonRead) {t : Lent} → Reads reading r t₀ t → SectionBytes sec → first_in sec key t.bones r ≡ searched
-  search-first R.Nothing m bytes = search_is (answered reading none (sym m.answer)).is
+  search-first R.Nothing m bytes = search_is (answered reading None (sym m.answer)).is
   search-first (R.Refused x) m bytes = search_is (unanswered reading (number x) (sym m.answer))
   search-first (R.Read s) m bytes =
-      let a = answered reading (some (meant_skeleton s)) (sym m.answer) in
+      let a = answered reading (Some (meant_skeleton s)) (sym m.answer) in
       ap (λ (l : List (Bone Place)). done (first_key key 0 (stored_names sec l))) (bones-held s bytes a.u a.is m.tables)
       ∙ search_is a.is

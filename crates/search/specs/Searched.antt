@@ -1,6 +1,6 @@
 -- What a search's answer says (docs/FORMAT.md, "Joints and names"). Definitions only.
 use Rattle.std.specs.Prelude.{ℕ, List}
-use Rattle.std.proofs.Math.Option.{Option, none, some}
+use Rattle.std.specs.Prelude.{Option, None, Some}
 use Rattle.format.specs.Result.{Res, refused, done}
 use Rattle.format.specs.Refusal.{number}
 use Rattle.format.specs.Section.{Section}
@@ -15,12 +15,12 @@ use Rattle.search.specs.declared.Searched.TheVariants.{Found, Nothing, Refused}
 
 -- the position found, none, or the refusal's number
 abbrev pub searched_of : Searched → Res (Option ℕ)
-searched_of (Found p) = done (some p)
-searched_of Nothing = done none
+searched_of (Found p) = done (Some p)
+searched_of Nothing = done None
 searched_of (Refused r) = refused (number r)
 
 -- the first of the bones that a reading left in a table
 abbrev pub first_in : Section → ℕ → List ℕ → SkeletonRead → Res (Option ℕ)
-first_in sec key t R.Nothing = done none
+first_in sec key t R.Nothing = done None
 first_in sec key t (R.Read s) = done (first_key key 0 (stored_names sec (bones_of (part_rows s.bones) t)))
 first_in sec key t (R.Refused x) = refused (number x)

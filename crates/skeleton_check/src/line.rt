@@ -72,6 +72,6 @@ pub(crate) fn put_report(v: Checked, line: &mut [u8]) -> usize
     match v {
         Checked::Nothing => line.len(),
         Checked::Accepted(n) => put_line(line, b"ok ", n),
-        Checked::Refused(x) => put_line(line, b"refused ", format::code(x) as usize),
+        Checked::Refused(x) => put_line(line, b"refused ", u32::from(x) as usize),
     }
 }

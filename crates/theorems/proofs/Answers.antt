@@ -2,7 +2,7 @@
 use Prim.Native.Nat.{ℕ, ◌+◌, ◌*◌, ◌≤◌}
 use native.Mathlib.Omega.{arith}
 use mathlib.Core.Path.{◌≡◌, refl, sym, ap, ◌∙◌}
-use mathlib.Core.Option.{Option, some}
+use Rattle.std.specs.Prelude.{Option, Some}
 use mathlib.Core.List.{List}
 use borrow.Author.Tests.{le-leb}
 use lib.ListN.{length, drop}
@@ -37,14 +37,14 @@ pub record AcceptedIs (sec : Section) (droom : DeriveRoom) (s : SkeletonRow) (u 
 
 pub accepted-is :
     (sec : Section) (room : Room) (droom : DeriveRoom) (root : ℕ) (s : SkeletonRow) (u : Tables) (m : ℕ) →
-    read_skeleton sec room root no_rows ≡ done (some s, u) → check sec room droom root ≡ done (some m) → AcceptedIs sec droom s
+    read_skeleton sec room root no_rows ≡ done (Some s, u) → check sec room droom root ≡ done (Some m) → AcceptedIs sec droom s
     u m
 unfolding check read check_from verdict
 accepted-is sec room droom root s u m e a =
     let r = read_of s u in
-    let a₀ : check_from droom (some r) ≡ done (some m) =
+    let a₀ : check_from droom (Some r) ≡ done (Some m) =
     sym (ap (λ (g : Step (Option SkeletonRow)). (g >>= λ x. done (read_from x.0 x.1)) >>= check_from droom) e) ∙ a in
-    gone (verdict droom r) _ (some m) a₀ λ n v a₁.
+    gone (verdict droom r) _ (Some m) a₀ λ n v a₁.
     let k₁ = needed 1 (derives droom (length r.bones)) _ n v in
     let k₂ = needed 21 (same_chains r.chains (chains (tags r.bones))) _ n k₁.1 in
     let k₃ = needed 22 (same_words r.parents (parents r.bones)) _ n k₂.1 in

@@ -5,7 +5,7 @@ use native.Mathlib.Omega.{arith}
 use mathlib.Core.Path.{◌≡◌, refl, sym, ap, subst, ◌∙◌}
 use mathlib.Core.Logic.{◌↔◌, inl, inr}
 use mathlib.Core.Bool.{not}
-use mathlib.Core.Option.{Option, none, some}
+use Rattle.std.specs.Prelude.{Option, None, Some}
 use mathlib.Core.List.{List}
 use lib.ListN.{length, get_or}
 use lib.Dec.{T}
@@ -126,8 +126,8 @@ exact sec root r count t₀ t x₀ x c l =
 -- a right answer of the lookup, as it is told
 right-told :
     (ts : List ℕ) (tag r position : ℕ) (w : Res (Option ℕ)) → Told w r position → Right ts tag w → RightTold ts tag r position
-right-told ts tag r position (done (some p)) k h = inl (k.answer, subst (IsGreatest ts tag) (sym k.number) h)
-right-told ts tag r position (done none) k h = inr (k.answer, h)
+right-told ts tag r position (done (Some p)) k h = inl (k.answer, subst (IsGreatest ts tag) (sym k.number) h)
+right-told ts tag r position (done None) k h = inr (k.answer, h)
 right-told ts tag r position (refused n) k h = absurd h
 
 found :
@@ -137,7 +137,7 @@ found :
 found sec root count t₀ t x₀ x bytes c h tag small r position k =
     let a = (checking sec root 0 count t₀ t x₀ x c).result.0 refl in
     let m : count ≡ a.value = c.told.number ∙ ap given a.is in
-    let says = a.is ∙ ap (λ (i : ℕ). done (some i)) (sym m) in
+    let says = a.is ∙ ap (λ (i : ℕ). done (Some i)) (sym m) in
     let tables = c.tables ∙ ap (λ (w : Res (Option ℕ)). leaves_by w (read_skeleton sec (read_room t₀) root no_rows) t₀) says in
     right-told _ tag r position (lookup sec root tag) k (found_at sec root t₀ t (room_in x₀) count bytes says tables h tag small)
 
@@ -181,7 +181,7 @@ back bones n lent free x out out' size w f o c graphics g =
           );
     }
   where
-    writes : (v : Res Bytes) (bs : Bytes) → sure v ≡ done (some bs) → WriteTold v 0 size out out' → Writes v (Done size) out out'
+    writes : (v : Res Bytes) (bs : Bytes) → sure v ≡ done (Some bs) → WriteTold v 0 size out out' → Writes v (Done size) out out'
     writes (done s) bs e k = record { answer = ap done k.count; buffer = k.buffer }
     writes (refused m) bs e k = let z : ◌≡◌ {A = ℕ} 0 1 = cc in absurd (omega arith)
 

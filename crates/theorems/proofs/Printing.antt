@@ -5,7 +5,7 @@ use native.Mathlib.Omega.{arith}
 use mathlib.Core.Path.{◌≡◌, refl, sym, ap, subst, ◌∙◌}
 use mathlib.Core.Logic.{◌↔◌, inl, inr}
 use mathlib.Core.Bool.{Bool, true, false, ◌&&◌, ◌||◌, cond}
-use mathlib.Core.Option.{Option, none, some}
+use Rattle.std.specs.Prelude.{Option, None, Some}
 use mathlib.Core.List.{List, [], ◌∷◌}
 use borrow.Author.Tests.{leb-true, le-leb, eqb-true, ne_eqb}
 use lib.ListN.{length, get_or, drop}
@@ -110,37 +110,37 @@ module _ (s : Bytes) where
   -- whether a reading gives a skeleton, as a number
   abbrev standing : Res (Option SkeletonRow × Tables) → ℕ
   standing (refused n) = 2
-  standing (done (none, t)) = 0
-  standing (done (some k, t)) = 1
+  standing (done (None, t)) = 0
+  standing (done (Some k, t)) = 1
 
   -- what is read at an address that is not 0 is a skeleton
-  root_read : (sec : Section) (room : Room) (a : ℕ) (t u : Tables) → read_skeleton sec room (suc a) t ≡ done (none, u) → ⊥
+  root_read : (sec : Section) (room : Room) (a : ℕ) (t u : Tables) → read_skeleton sec room (suc a) t ≡ done (None, u) → ⊥
   unfolding read_skeleton skeleton_from
-  root_read sec room a t u e = gone (read_as skeleton (suc a) t) _ (none, u) e λ o e₁ e₂. from o e₂
+  root_read sec room a t u e = gone (read_as skeleton (suc a) t) _ (None, u) e λ o e₁ e₂. from o e₂
     where
-      from : (o : Option Rows) → skeleton_from sec room (suc a) t o ≡ done (none, u) → ⊥
-      from (some r) q = let z : ◌≡◌ {A = ℕ} 1 0 = ap standing q in omega (arith, z)
-      from none q =
-          gone (read_new_skeleton sec room (suc a) t) _ (none, u) q λ p e₃ e₄.
+      from : (o : Option Rows) → skeleton_from sec room (suc a) t o ≡ done (None, u) → ⊥
+      from (Some r) q = let z : ◌≡◌ {A = ℕ} 1 0 = ap standing q in omega (arith, z)
+      from None q =
+          gone (read_new_skeleton sec room (suc a) t) _ (None, u) q λ p e₃ e₄.
           let z : ◌≡◌ {A = ℕ} 1 0 = ap standing e₄ in omega (arith, z)
 
-  never_none : (sec : Section) (room : Room) (droom : DeriveRoom) (a : ℕ) → check sec room droom (suc a) ≡ done none → ⊥
+  never_none : (sec : Section) (room : Room) (droom : DeriveRoom) (a : ℕ) → check sec room droom (suc a) ≡ done None → ⊥
   unfolding check read check_from
   never_none sec room droom a e =
-      gone (read sec room (suc a)) (check_from droom) none e λ o e₁ e₂.
+      gone (read sec room (suc a)) (check_from droom) None e λ o e₁ e₂.
       gone (read_skeleton sec room (suc a) no_rows) _ o e₁ λ x e₃ e₄. from x.0 x.1 e₃ o e₄ e₂
     where
       from :
           (k : Option SkeletonRow) (t : Tables) → read_skeleton sec room (suc a) no_rows ≡ done (k, t) → (o : _) →
-          done (read_from k t) ≡ done o → check_from droom o ≡ done none → ⊥
-      from none t q o p r = root_read sec room a no_rows t q
-      from (some k) t q o p r =
-          let i : some (read_of k t) ≡ o = cc in
-          gone (verdict droom (read_of k t)) _ none (ap (check_from droom) i ∙ r) λ m e₁ e₂.
+          done (read_from k t) ≡ done o → check_from droom o ≡ done None → ⊥
+      from None t q o p r = root_read sec room a no_rows t q
+      from (Some k) t q o p r =
+          let i : Some (read_of k t) ≡ o = cc in
+          gone (verdict droom (read_of k t)) _ None (ap (check_from droom) i ∙ r) λ m e₁ e₂.
           let z : ◌≡◌ {A = ℕ} 0 1 = cc in omega arith
 
   -- no more bones are accepted than the program has matrices for
-  few : (n : ℕ) → answer ≡ done (some n) → n ≤ 99999
+  few : (n : ℕ) → answer ≡ done (Some n) → n ≤ 99999
   unfolding derives
   few n e =
       let w = accepts_reads (input_section s) program_room program_derive_room base n e in
@@ -162,15 +162,15 @@ module _ (s : Bytes) where
   shown b = report (need 1 b >>= λ u. answer)
 
   ok_shown :
-      (b : Bool) (w : Res (Option ℕ)) (n : ℕ) → n ≤ 99999 → ((m : ℕ) → w ≡ done (some m) → m ≤ 99999) →
-      report (need 1 b >>= λ u. w) ≡ ok_line n → (b ≡ true) × (w ≡ done (some n))
+      (b : Bool) (w : Res (Option ℕ)) (n : ℕ) → n ≤ 99999 → ((m : ℕ) → w ≡ done (Some m) → m ≤ 99999) →
+      report (need 1 b >>= λ u. w) ≡ ok_line n → (b ≡ true) × (w ≡ done (Some n))
   ok_shown false w n h k e = absurd (ok-not_refused 1 n e)
-  ok_shown true (done (some m)) n h k e = (refl, ap (λ (i : ℕ). done (some i)) (ok_same m n (k m refl) h e))
-  ok_shown true (done none) n h k e = absurd (ok_not_empty n e)
+  ok_shown true (done (Some m)) n h k e = (refl, ap (λ (i : ℕ). done (Some i)) (ok_same m n (k m refl) h e))
+  ok_shown true (done None) n h k e = absurd (ok_not_empty n e)
   ok_shown true (refused m) n h k e = absurd (ok-not_refused m n e)
 
   ok-exact :
-      (n : ℕ) → n ≤ 99999 → (printed s ≡ ok_line n) ↔ ((length s ≤ 65536) × (answer ≡ done (some n)))
+      (n : ℕ) → n ≤ 99999 → (printed s ≡ ok_line n) ↔ ((length s ≤ 65536) × (answer ≡ done (Some n)))
   unfolding printed
   ok-exact n h = (
     λ e.
@@ -187,9 +187,9 @@ module _ (s : Bytes) where
       by :
           (b : Bool) → leb (length s) 65536 ≡ b → (w : Res (Option ℕ)) → answer ≡ w → OneLine s
       by false q w e = record { number = 1; small = omega arith; either = inr (ap (λ (b : Bool). shown b) q, tt) }
-      by true q (done (some m)) e =
+      by true q (done (Some m)) e =
           record { number = m; small = few m e; either = inl (ap (λ (b : Bool). shown b) q ∙ ap report e) }
-      by true q (done none) e = absurd (never_none (input_section s) program_room program_derive_room 1342177279 e)
+      by true q (done None) e = absurd (never_none (input_section s) program_room program_derive_room 1342177279 e)
       by true q (refused m) e =
           let k = (call_refusals.check (input_section s) program_room program_derive_room base).only m e in
           record { number = m; small = listed m check_refusals tt k; either = inr (ap (λ (b : Bool). shown b) q ∙ ap report e, k) }

@@ -1,7 +1,7 @@
 -- The rows that `build_bone_tags` leaves hold the chains. Assumes nothing.
 use mathlib.Core.Path.{◌≡◌, sym, ap, ◌∙◌}
 use Prim.Native.Nat.{ℕ}
-use mathlib.Core.Option.{some}
+use Rattle.std.specs.Prelude.{Some}
 use mathlib.Core.List.{List, flat_map}
 use lib.ListN.{length, take, length-map}
 use lib.Dec.{leb}
@@ -24,7 +24,7 @@ use Rattle.theorems.specs.TagChains.{BuildsTags, TagChains}
 
 following :
     (bones : List ℕ) (n count : ℕ) (b₀ e₀ b e : List ℕ) → BuildsTags bones n (Done count) b₀ e₀ b e →
-    chains_along (entries_in e) n (take count b) ≡ some (chains (tags (bones_of n bones)))
+    chains_along (entries_in e) n (take count b) ≡ Some (chains (tags (bones_of n bones)))
 unfolding derived
 following bones n count b₀ e₀ b e w =
     let ts = tags (bones_of n bones) in

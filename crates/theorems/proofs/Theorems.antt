@@ -4,7 +4,7 @@ use Prim.Native.Nat.{ℕ, ◌≤◌}
 use native.Mathlib.Omega.{arith}
 use mathlib.Core.Path.{◌≡◌, sym, ap, subst, ◌∙◌}
 use mathlib.Core.Logic.{◌↔◌}
-use mathlib.Core.Option.{Option, some}
+use Rattle.std.specs.Prelude.{Option, Some}
 use mathlib.Core.List.{List}
 use lib.ListN.{length, length-map}
 use lib.Dec.{T}
@@ -52,16 +52,16 @@ use Rattle.theorems.proofs.Answers.{accepted-is, written_is}
 -- ---- the bones in the table
 
 bones-left :
-    {g : Step (Option SkeletonRow)} {s : SkeletonRow} {u : Tables} (t₀ t : read.Lent) → g ≡ done (some s, u) → t ≡ read_leaves g t₀ →
+    {g : Step (Option SkeletonRow)} {s : SkeletonRow} {u : Tables} (t₀ t : read.Lent) → g ≡ done (Some s, u) → t ≡ read_leaves g t₀ →
     t.bones ≡ laid (table_words u).bones (length t₀.bones)
 bones-left {s = s} {u = u} t₀ t e l =
-    let k : t ≡ read_leaves (done (some s, u)) t₀ = l ∙ ap (λ (x : Step (Option SkeletonRow)). read_leaves x t₀) e in
+    let k : t ≡ read_leaves (done (Some s, u)) t₀ = l ∙ ap (λ (x : Step (Option SkeletonRow)). read_leaves x t₀) e in
     ap (λ (x : read.Lent). x.bones) k
 
 -- after a reading of bytes the table of bones holds the bones read
 bones_in_lem :
     (sec : Section) → SectionBytes sec → (root : ℕ) (s : SkeletonRow) (u : Tables) (t₀ t : read.Lent) →
-    read_skeleton sec (read_room t₀) root no_rows ≡ done (some s, u) → t ≡ read_leaves (read_skeleton sec (read_room t₀) root no_rows) t₀ →
+    read_skeleton sec (read_room t₀) root no_rows ≡ done (Some s, u) → t ≡ read_leaves (read_skeleton sec (read_room t₀) root no_rows) t₀ →
     bones_read s.bones u ≡ bones_of (part_length s.bones) t.bones
 bones_in_lem sec small root s u t₀ t e l =
     bones-held sec small (read_room t₀) root s u e (length t₀.bones) (bones-left t₀ t e l)
@@ -82,7 +82,7 @@ exact sec root t₀ t x₀ x r c l =
 -- where the check accepts n bones and leaves the reading's tables
 pub found_at :
     (sec : Section) (root : ℕ) (t₀ t : read.Lent) (droom : DeriveRoom) (n : ℕ) → SectionBytes sec →
-    check sec (read_room t₀) droom root ≡ done (some n) → t ≡ read_leaves (read_skeleton sec (read_room t₀) root no_rows) t₀ →
+    check sec (read_room t₀) droom root ≡ done (Some n) → t ≡ read_leaves (read_skeleton sec (read_room t₀) root no_rows) t₀ →
     2 ≤ n → (tag : ℕ) → tag ≤ 65535 → Right (tags (bones_of n t.bones)) tag (lookup sec root tag)
 found_at sec root t₀ t droom n bytes says left h tag small =
     let w = accepts_reads sec (read_room t₀) droom root n says in
@@ -121,7 +121,7 @@ module _
     -- a reading with tables that hold it
     pub reading :
         (t₀ : read.Lent) → Holds (read_room t₀) b.tables →
-        read_skeleton sec (read_room t₀) base no_rows ≡ done (some b.skeleton, b.tables)
+        read_skeleton sec (read_room t₀) base no_rows ≡ done (Some b.skeleton, b.tables)
     reading t₀ h = (theorems.room sec base b.skeleton b.tables b.reads (read_room t₀)).0 h
 
     module _
@@ -140,13 +140,13 @@ module _
     -- the check with tables that hold it
     pub check_accepts :
         (t₀ : read.Lent) (x₀ : Working) → Sized sec base (read_room t₀) (room_in x₀) →
-        check sec (read_room t₀) (room_in x₀) base ≡ done (some n)
+        check sec (read_room t₀) (room_in x₀) base ≡ done (Some n)
     check_accepts t₀ x₀ l =
         let h = l.read b.skeleton b.tables b.reads in
         let d = l.derive b.skeleton b.tables b.reads in
         let m = length-bones_of n a in
         b.accepted (read_room t₀) (room_in x₀) h (subst (λ (k : ℕ). T (derives (room_in x₀) k)) (read_count ∙ sym m) d)
-        ∙ ap (λ (k : ℕ). done (some k)) m
+        ∙ ap (λ (k : ℕ). done (Some k)) m
 
     pub written_back : WrittenBack lent a n free sec
     written_back =

@@ -1,7 +1,7 @@
 -- Demand 3 of the program: what a line that `skeleton_check` prints means (docs/FORMAT.md, "Joints and names"). The line for a section is
 -- `printed`, which `skeleton_check::print_check` promises. `proofs/Printing.antt` proves it. Definitions only.
 use Rattle.std.specs.Prelude.{◌≡◌, ◌↔◌, ◌⊎◌, ℕ, ◌≤◌, [], ◌∷◌, length, T}
-use Rattle.std.proofs.Math.Option.{some}
+use Rattle.std.specs.Prelude.{Some}
 use Rattle.format.specs.Result.{done}
 use Rattle.format.specs.Section.{Section}
 use Rattle.format.specs.Deriving.{tags}
@@ -45,7 +45,7 @@ pub record Printing : Type 0 where
   pub ok :
       (s : Bytes) (n : ℕ) → n ≤ 99999 →
       (printed s ≡ ok_line n) ↔
-      ((length s ≤ 65536) × (check (input_section s) program_room program_derive_room base ≡ done (some n)))
+      ((length s ≤ 65536) × (check (input_section s) program_room program_derive_room base ≡ done (Some n)))
   -- what is accepted reads, and its lists equal those derived
   pub sound : (s : Bytes) (n : ℕ) → n ≤ 99999 → printed s ≡ ok_line n → Sound (input_section s) base
   -- with n of 2 or more, every tag is found

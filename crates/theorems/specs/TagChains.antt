@@ -2,7 +2,7 @@
 -- tags (docs/FORMAT.md, "Deriving"). b₀ and e₀ are the lent tables of buckets and entries before it, b and e the same after it.
 -- `proofs/TagChains.antt` proves it. Definitions only.
 use Rattle.std.specs.Prelude.{◌≡◌, ℕ, length, take}
-use Rattle.std.proofs.Math.Option.{some}
+use Rattle.std.specs.Prelude.{Some}
 use mathlib.Core.List.{List, flat_map}
 use Rattle.format.specs.Chains.{chains}
 use Rattle.format.specs.Deriving.{tags}
@@ -27,4 +27,4 @@ pub record BuildsTags (bones : List ℕ) (n : ℕ) (r : Tagged) (b₀ e₀ b e :
 pub record TagChains : Type 0 where
   pub following :
       (bones : List ℕ) (n count : ℕ) (b₀ e₀ b e : List ℕ) → BuildsTags bones n (Done count) b₀ e₀ b e →
-      chains_along (entries_in e) n (take count b) ≡ some (chains (tags (bones_of n bones)))
+      chains_along (entries_in e) n (take count b) ≡ Some (chains (tags (bones_of n bones)))

@@ -3,7 +3,7 @@
 use Prim.Native.Nat.{ℕ, ◌*◌, ◌≤◌}
 use mathlib.Core.Path.{◌≡◌, refl, sym, ap, subst, ◌∙◌}
 use mathlib.Core.Bool.{Bool, true, false}
-use mathlib.Core.Option.{Option, none, some}
+use Rattle.std.specs.Prelude.{Option, None, Some}
 use lib.ListN.{length}
 use Rattle.format.specs.Result.{Res, refused, done, ◌>>=◌, need}
 use Rattle.format.specs.Section.{Section}
@@ -38,7 +38,7 @@ use Rattle.verify.specs.Checks.{leaves_by, Checks}
 
 three-behind :
     (n : ℕ) (f g h : ℕ → Res (Unit {0})) (a b c : Res (Unit {0})) → f n ≡ a → g n ≡ b → h n ≡ c →
-    ((a >>= λ u. b >>= λ u. c >>= λ u. done n) >>= λ m. done (some m)) ≡ behind (behind (behind (done (some n)) f) g) h
+    ((a >>= λ u. b >>= λ u. c >>= λ u. done n) >>= λ m. done (Some m)) ≡ behind (behind (behind (done (Some n)) f) g) h
 unfolding behind
 three-behind n f g h (refused x) b c ea eb ec = rw ea refl
 three-behind n f g h (done u) (refused x) c ea eb ec = rw (ea, eb) refl
@@ -49,8 +49,8 @@ three-behind n f g h (done u) (done v) (done w) ea eb ec = rw (ea, eb, ec) refl
 with_room :
     (n : ℕ) (d : Bool) (f g h : ℕ → Res (Unit {0})) (a b c : Res (Unit {0})) →
     (d ≡ true → f n ≡ a) → (d ≡ true → g n ≡ b) → (d ≡ true → h n ≡ c) →
-    ((need 1 d >>= λ u. a >>= λ u. b >>= λ u. c >>= λ u. done n) >>= λ m. done (some m))
-    ≡ behind (behind (behind (need 1 d >>= λ u. done (some n)) f) g) h
+    ((need 1 d >>= λ u. a >>= λ u. b >>= λ u. c >>= λ u. done n) >>= λ m. done (Some m))
+    ≡ behind (behind (behind (need 1 d >>= λ u. done (Some n)) f) g) h
 unfolding behind
 with_room n false f g h a b c ea eb ec = refl
 with_room n true f g h a b c ea eb ec = three-behind n f g h a b c (ea refl) (eb refl) (ec refl)
@@ -79,8 +79,8 @@ module _ (k : Counts) (t : Lent) (x : Working) where
       (verdict (room_in x)
       (read_in n t.bones k.buckets t.buckets t.entries k.inverse t.inverse k.local t.local k.parents
       t.parents k.children t.children)
-      >>= λ m. done (some m))
-      ≡ staged (need 1 (derives (room_in x) n) >>= λ u. done (some n))
+      >>= λ m. done (Some m))
+      ≡ staged (need 1 (derives (room_in x) n) >>= λ u. done (Some n))
   verdict-behind n few rows =
       let r =
       read_in n t.bones k.buckets t.buckets t.entries k.inverse t.inverse k.local t.local k.parents
@@ -99,10 +99,10 @@ module _ (k : Counts) (t : Lent) (x : Working) where
 module _ (sec : Section) (bytes : SectionBytes sec) (root : ℕ) (t₀ t₁ : Lent) (x : Working) where
   -- of a reading that gave a skeleton
   read_staged :
-      (y : Skeleton) (u : Tables) → read_skeleton sec (read_room t₀) root no_rows ≡ done (some (meant_skeleton y), u) →
-      t₁ ≡ read_leaves (done (some (meant_skeleton y), u)) t₀ →
+      (y : Skeleton) (u : Tables) → read_skeleton sec (read_room t₀) root no_rows ≡ done (Some (meant_skeleton y), u) →
+      t₁ ≡ read_leaves (done (Some (meant_skeleton y), u)) t₀ →
       check sec (read_room t₀) (room_in x) root
-      ≡ staged (counts_of (R.Read y)) t₁ x (need 1 (derives (room_in x) (part_rows y.bones)) >>= λ n. done (some (part_rows y.bones)))
+      ≡ staged (counts_of (R.Read y)) t₁ x (need 1 (derives (room_in x) (part_rows y.bones)) >>= λ n. done (Some (part_rows y.bones)))
   unfolding check read check_from
   read_staged y u e l =
       let s = meant_skeleton y in
@@ -118,7 +118,7 @@ module _ (sec : Section) (bytes : SectionBytes sec) (root : ℕ) (t₀ t₁ : Le
       (rows-counted y.inverse j) t₁.inverse (rows-counted y.local j) t₁.local (rows-counted y.parents j)
       t₁.parents (rows-counted y.children j) t₁.children in
       rw e
-      (ap (λ (z : Read). verdict (room_in x) z >>= λ m. done (some m)) (held ∙ counts)
+      (ap (λ (z : Read). verdict (room_in x) z >>= λ m. done (Some m)) (held ∙ counts)
       ∙ verdict-behind (counts_of (R.Read y)) t₁ x (part_rows y.bones)
       (subst (λ (n : ℕ). n ≤ 65535) (rows-counted y.bones) few)
       (subst (λ (n : ℕ). bone_width * n ≤ length t₁.bones) (rows-counted y.bones) rows))
@@ -137,12 +137,12 @@ module _ (sec : Section) (bytes : SectionBytes sec) (root : ℕ) (t₀ t₁ : Le
             (v : Step (Option SkeletonRow)) → read_skeleton sec (read_room t₀) root no_rows ≡ v → meant_read r ≡ answer_of v →
             t₁ ≡ read_leaves v t₀ → Staged r
         go (refused c) e a l = rw (e, a) refl
-        go (done (none, u)) e a l = rw (e, a) refl
-        go (done (some s, u)) e a l =
+        go (done (None, u)) e a l = rw (e, a) refl
+        go (done (Some s, u)) e a l =
             let i = skeleton-is r s a in
             subst Staged (sym i.is)
-            (read_staged i.skeleton u (e ∙ ap (λ (y : SkeletonRow). done (some y, u)) (sym i.meant))
-            (l ∙ ap (λ (y : SkeletonRow). read_leaves (done (some y, u)) t₀) (sym i.meant)))
+            (read_staged i.skeleton u (e ∙ ap (λ (y : SkeletonRow). done (Some y, u)) (sym i.meant))
+            (l ∙ ap (λ (y : SkeletonRow). read_leaves (done (Some y, u)) t₀) (sym i.meant)))
 
 -- ---- tables
 

@@ -1,7 +1,7 @@
 -- What the check promises: its answer is the format's, and so are the tables that it leaves (docs/FORMAT.md, "Lookup and check", "Who can
 -- cause a refusal"). Definitions only.
 use Rattle.std.specs.Prelude.{ℕ, ◌≡◌}
-use Rattle.std.proofs.Math.Option.{Option, none, some}
+use Rattle.std.specs.Prelude.{Option, None, Some}
 use Rattle.format.specs.Result.{Res, refused, done}
 use Rattle.format.specs.Section.{Section}
 use Rattle.format.specs.Tables.{SkeletonRow, no_rows}
@@ -16,8 +16,8 @@ use Rattle.check_steps.specs.declared.Checked.{Checked}
 -- what the check leaves in the reading's tables that were t₀: after an acceptance what the reading g leaves, else zeros
 abbrev pub leaves_by : Res (Option ℕ) → Step (Option SkeletonRow) → Lent → Lent
 leaves_by (refused c) g t₀ = cleared_all t₀
-leaves_by (done none) g t₀ = cleared_all t₀
-leaves_by (done (some n)) g t₀ = read_leaves g t₀
+leaves_by (done None) g t₀ = cleared_all t₀
+leaves_by (done (Some n)) g t₀ = read_leaves g t₀
 
 -- the check with the answer r, lent the reading's tables t₀ and the deriving's x₀: the latter are working tables, zero after every call
 pub record Checks (sec : Section) (root : ℕ) (r : Checked) (t₀ t : Lent) (x₀ x : Working) : Type 0 where

@@ -1,6 +1,6 @@
 -- Bones stored one behind the other: the name of a row, the records of the rows, and the block. Assumes nothing.
 use mathlib.Core.Path.{◌≡◌, refl, ap, ◌∙◌}
-use mathlib.Core.Option.{none, some}
+use Rattle.std.specs.Prelude.{None, Some}
 use mathlib.Core.List.{List, [], ◌∷◌}
 use Prim.Native.Nat.{ℕ, zero, suc, ◌+◌, ◌-◌, ◌*◌, ◌^◌, ◌≤◌, ◌<◌}
 use native.Mathlib.Nat.{add-zero, add_assoc, sub-zero}
@@ -25,25 +25,25 @@ use Rattle.fields.proofs.Stores.{sets-append}
 
 -- ---- the name of a row
 
-place_none : (a n : ℕ) → (our_place (place_of a n)).address ≡ 0 → place_of a n ≡ none
+place_none : (a n : ℕ) → (our_place (place_of a n)).address ≡ 0 → place_of a n ≡ None
 unfolding place_of
 place_none zero n e = refl
 place_none (suc a) n e = absurd (omega (arith, e))
 
 place-some :
     (a n : ℕ) → ((our_place (place_of a n)).address ≡ 0 → ⊥)
-    → place_of a n ≡ some (record { address = (our_place (place_of a n)).address; size = (our_place (place_of a n)).size })
+    → place_of a n ≡ Some (record { address = (our_place (place_of a n)).address; size = (our_place (place_of a n)).size })
 unfolding place_of
 place-some zero n h = absurd (h refl)
 place-some (suc a) n h = refl
 
 module _ (w : List ℕ) {p : our.Place} (e : p ≡ our_place (bone_of w).name) where
   -- address 0 is no name
-  pub name-none : p.address ≡ 0 → (bone_of w).name ≡ none
+  pub name-none : p.address ≡ 0 → (bone_of w).name ≡ None
   unfolding bone_of
   name-none z = place_none _ _ (rw e at z)
 
-  pub name-some : (p.address ≡ 0 → ⊥) → (bone_of w).name ≡ some (record { address = p.address; size = p.size })
+  pub name-some : (p.address ≡ 0 → ⊥) → (bone_of w).name ≡ Some (record { address = p.address; size = p.size })
   unfolding bone_of
   name-some z = rw e (place-some _ _ (rw e at z))
 

@@ -234,13 +234,13 @@ module _ (heads rows : List ℕ) (count at to : ℕ) where
       let es = entry_bytes (base + to) cs in
       let zs : List ℕ = replicate (fill (8 * count)) 0 in
       let past : length (take count heads) ≤ b = omega (arith, length-take-le count heads r.buckets) in
-      let none : drop b (take count heads) ≡ [] = drop_of_length-le (take count heads) past in
+      let None : drop b (take count heads) ≡ [] = drop_of_length-le (take count heads) past in
       let lp : length ps ≡ 8 * count =
       length-word_bytes 8 (pointers (base + to) cs)
       ∙ ap (λ (k : ℕ). 8 * k) (length-pointers (base + to) cs ∙ length-map (take count heads) (linked rows) ∙ length-take-le
       count heads r.buckets) in
       let lz : length zs ≡ fill (8 * count) = length-replicate (fill (8 * count)) 0 in
-      let f : d ≡ sets (sets d₀ at ps) to es = rw none at h.is in
+      let f : d ≡ sets (sets d₀ at ps) to es = rw None at h.is in
       let g : d' ≡ sets (sets (sets d₀ at ps) to es) (at + 8 * count) zs = rw (f, ez) at e in
       let swap = sets_swap zs es (sets d₀ at ps) (at + 8 * count) to (omega (arith, lz, r.before)) in
       let join : sets (sets d₀ at ps) (at + 8 * count) zs ≡ sets d₀ at (pad16 ps) = padded d₀ at ps lp refl refl in

@@ -3,7 +3,7 @@
 use mathlib.Core.Path.{◌≡◌, refl, sym, ap, ◌∙◌}
 use mathlib.Core.Bool.{Bool, true, false, not, ◌&&◌, ◌||◌}
 use mathlib.Core.Logic.{⊎_elim}
-use mathlib.Core.Option.{Option, none, some}
+use Rattle.std.specs.Prelude.{Option, None, Some}
 use mathlib.Core.List.{List, [], ◌∷◌, ◌++◌, flat_map}
 use Prim.Native.Nat.{ℕ, ◌+◌, ◌-◌, ◌*◌, ◌≤◌, ◌<◌}
 use native.Mathlib.Nat.{sub-zero, zero-add}
@@ -182,8 +182,8 @@ module _ (lent : Section) where
   pub good-takes : (o : Option Place) → good_name lent o ≡ true → (length (ended_name (map_name (name_bytes lent) o)) ≡ takes o) ×
       (takes o ≤ 256)
   unfolding ended_name name_bytes
-  good-takes none t = (refl, omega arith)
-  good-takes (some p) t =
+  good-takes None t = (refl, omega arith)
+  good-takes (Some p) t =
       let k = good_part_lem p.address p.size (part lent p.address p.size) refl t in
       (length-append (name_bytes lent p) (0 ∷ []) ∙ (let e = k.0 in omega arith), omega (arith, k.1))
 

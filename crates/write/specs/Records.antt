@@ -1,6 +1,6 @@
 -- Bones and their names as the rows give them: the words of a bone's record, the bytes that names take. Definitions only.
 use Rattle.std.specs.Prelude.{ℕ, ◌+◌, ◌*◌, ◌/◌, ◌%◌, ◌≤◌, ◌<◌, List, [], ◌∷◌, ◌++◌, length, get_or, drop}
-use Rattle.std.proofs.Math.Option.{Option, none, some}
+use Rattle.std.specs.Prelude.{Option, None, Some}
 use Rattle.format.specs.Field.{◌⊳◌, lay}
 use Rattle.format.specs.Section.{Place}
 use Rattle.format.specs.Bone.{Bone}
@@ -10,8 +10,8 @@ use Rattle.format.specs.Section.{window}
 
 -- the bytes that a name takes, with the zero behind it
 abbrev pub takes : Option Place → ℕ
-takes none = 0
-takes (some p) = p.size + 1
+takes None = 0
+takes (Some p) = p.size + 1
 
 unfoldable pub takes_all : List (Bone Place) → ℕ
 takes_all [] = 0

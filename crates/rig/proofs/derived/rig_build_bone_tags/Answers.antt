@@ -18,7 +18,7 @@ pub returns-in-Refused : goal.returns-in-Refused
 returns-in-Refused c =
     let e = sym (ap tagged_of c.in-Refused.is) ∙ c.build_bone_tags.ensures.answer in
     record {
-      answer = c.code.ensures.answer ∙ status-refused e;
+      answer = c.from.ensures ∙ status-refused e;
       count = counted-refused e;
       buckets = c.build_bone_tags.ensures.buckets;
       entries = c.build_bone_tags.ensures.entries;

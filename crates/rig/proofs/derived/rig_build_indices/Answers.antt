@@ -19,7 +19,7 @@ pub returns-in-Refused : goal.returns-in-Refused
 returns-in-Refused c =
     let e = sym (ap indexed_of c.in-Refused.is) ∙ c.build_indices.ensures.answer in
     record {
-      answer = c.code.ensures.answer ∙ status-refused e;
+      answer = c.from.ensures ∙ status-refused e;
       count = counted-refused e;
       parents = c.build_indices.ensures.parents;
       children = c.build_indices.ensures.children;

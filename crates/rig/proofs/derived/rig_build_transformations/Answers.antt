@@ -15,7 +15,7 @@ pub returns-in-Refused : goal.returns-in-Refused
 returns-in-Refused c =
     record {
       answer =
-          c.code.ensures.answer ∙ status-refused
+          c.from.ensures ∙ status-refused
           (sym (ap transformed_of c.in-Refused.is) ∙ c.build_transformations.ensures.answer);
       rows = c.build_transformations.ensures.rows;
     }

@@ -17,5 +17,5 @@ returns-in-Read c =
 
 pub returns-in-Refused : goal.returns-in-Refused
 returns-in-Refused c =
-    let a = refused-read c.read.new.rotation c.read.new.translation c.in-Refused.is c.read.ensures.answer c.code.ensures.answer in
+    let a = refused-read c.read.new.rotation c.read.new.translation c.in-Refused.is c.read.ensures.answer c.from.ensures in
     record { answer = a.0; fields = a.1; rotation = c.read.ensures.rotation; translation = c.read.ensures.translation }

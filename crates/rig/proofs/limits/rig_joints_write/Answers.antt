@@ -12,4 +12,4 @@ returns-in-Done c =
 pub returns-in-Refused : goal.returns-in-Refused
 returns-in-Refused c =
     let e = sym (ap meant_written c.in-Refused.is) ∙ c.write.ensures.answer in
-    record { answer = c.code.ensures.answer ∙ status-refused e; count = counted-refused e; buffer = c.write.ensures.buffer }
+    record { answer = c.from.ensures ∙ status-refused e; count = counted-refused e; buffer = c.write.ensures.buffer }
