@@ -1,5 +1,6 @@
 -- The ways out of `fill`: the format's reading of a skeleton taken apart as the code reads it, and what each stage leaves to the
 -- next. Assumes nothing.
+use Rattle.std.specs.Prelude.{Err, Ok, Result}
 use Prim.Native.Nat.{ℕ}
 use mathlib.Core.Path.{◌≡◌, refl, sym, ap, subst, ◌∙◌}
 use Rattle.std.specs.Prelude.{Option, None, Some}
@@ -30,13 +31,9 @@ use Rattle.read.specs.Parts.{read_pair, PairLent, PairBy, ReadsPair, KeepsPart}
 use Rattle.read.specs.Lent.{Lent, lent, read_room, cleared_all}
 use Rattle.read.specs.Reads.{meant_skeleton, Fills}
 use Rattle.read.specs.declared.Skeleton.{Skeleton}
-use Rattle.read.specs.declared.Filled.TheVariants as F
 use Rattle.read_records.specs.declared.header.Header.{Header}
 use Rattle.read_records.specs.declared.header.Headed.{Headed}
 use Rattle.read_records.specs.declared.header.Headed.TheVariants as H
-use Rattle.read.specs.declared.Part.{Part}
-use Rattle.read.specs.declared.parts.Two.{Two}
-use Rattle.read.specs.declared.parts.Two.TheVariants as T
 
 -- ---- the format's reading, two parts at a time
 
@@ -132,7 +129,7 @@ module _ {o b e i l a c p : List ℕ} (z : lent o b e i l a c p ≡ cleared_all 
 -- ---- the ways out
 
 -- the skeleton as the code makes it
-abbrev pub skeleton_of : Header → (bs ms is ls ps cs : Part) → Skeleton
+abbrev pub skeleton_of : Header → (bs ms is ls ps cs : Option ℕ) → Skeleton
 skeleton_of h bs ms is ls ps cs =
     record {
       kind = h.kind;
@@ -159,16 +156,16 @@ module _ (o₀ b₀ e₀ i₀ l₀ a₀ c₀ p₀ : List ℕ) where
   Zero = given ≡ cleared_all given
 
   module _ (sec : Section) (root : ℕ) (v : Headed) (hd : meant_headed v ≡ header sec root) where
-    pub fill_no_header : {x : Refusal} → v ≡ H.Refused x → Fills sec root (F.Refused x) given given
+    pub fill_no_header : {x : Refusal} → v ≡ H.Refused x → Fills sec root (Err x) given given
     unfolding read_new_skeleton
     fill_no_header i = record { fills = λ z. rw (sym hd ∙ ap meant_headed i) refl }
 
     module _
-        {h : Header} (ih : v ≡ H.At h) {r₁ : Two} {o₁ b e p₁ : List ℕ} (m₁ : ReadsRows sec h r₁ o₀ o₁ b₀ b e₀ e p₀ p₁)
+        {h : Header} (ih : v ≡ H.At h) {r₁ : Result (Option ℕ × Option ℕ) Refusal} {o₁ b e p₁ : List ℕ} (m₁ : ReadsRows sec h r₁ o₀ o₁ b₀ b e₀ e p₀ p₁)
       where
-        rows-read : {y : Two} → r₁ ≡ y → Zero → RowsBy room (read_rows sec room (meant_header h) no_rows) o₁ b e p₁ y
+        rows-read : {y : Result (Option ℕ × Option ℕ) Refusal} → r₁ ≡ y → Zero → RowsBy room (read_rows sec room (meant_header h) no_rows) o₁ b e p₁ y
         rows-read i z =
-            subst (λ (y : Two). RowsBy room (read_rows sec room (meant_header h) no_rows) o₁ b e p₁ y) i
+            subst (λ (y : Result (Option ℕ × Option ℕ) Refusal). RowsBy room (read_rows sec room (meant_header h) no_rows) o₁ b e p₁ y) i
             (m₁.reads room (rows-lent z))
 
         from_rows :
@@ -178,11 +175,11 @@ module _ (o₀ b₀ e₀ i₀ l₀ a₀ c₀ p₀ : List ℕ) where
             to_rows sec room root (meant_header h) (sym hd ∙ ap meant_headed ih) no_rows
             ∙ ap (λ (g : Step (Option Rows × Option Rows)). g >>= matrices sec room root (meant_header h)) e
 
-        pub fill-no_rows : {x : Refusal} → r₁ ≡ T.Refused x → Fills sec root (F.Refused x) given (lent o₁ b e i₀ l₀ a₀ c₀ p₁)
+        pub fill-no_rows : {x : Refusal} → r₁ ≡ Err x → Fills sec root (Err x) given (lent o₁ b e i₀ l₀ a₀ c₀ p₁)
         fill-no_rows i = record { fills = λ z. from_rows (rows-read i z) }
 
         module _
-            {x₁ y₁ : Part} (d₁ : r₁ ≡ T.Done x₁ y₁) {r₂ : Two} {i l p₂ : List ℕ}
+            {x₁ y₁ : Option ℕ} (d₁ : r₁ ≡ Ok (x₁, y₁)) {r₂ : Result (Option ℕ × Option ℕ) Refusal} {i l p₂ : List ℕ}
             (m₂ : ReadsPair sec inverse_table h.inverse_at h.bone_count h.local_at h.bone_count r₂
             i₀ i l₀ l p₁ p₂)
           where
@@ -210,9 +207,9 @@ module _ (o₀ b₀ e₀ i₀ l₀ a₀ c₀ p₀ : List ℕ) where
             pair₂ z =
                 read_pair sec room inverse_table h.inverse_at h.bone_count h.local_at h.bone_count (t₁ z)
 
-            matrices_read : {y : Two} → r₂ ≡ y → (z : Zero) → PairBy inverse_table room (t₁ z) (pair₂ z) i₀ i l₀ l p₂ y
+            matrices_read : {y : Result (Option ℕ × Option ℕ) Refusal} → r₂ ≡ y → (z : Zero) → PairBy inverse_table room (t₁ z) (pair₂ z) i₀ i l₀ l p₂ y
             matrices_read j z =
-                subst (λ (y : Two). PairBy inverse_table room (t₁ z) (pair₂ z) i₀ i l₀ l p₂ y) j
+                subst (λ (y : Result (Option ℕ × Option ℕ) Refusal). PairBy inverse_table room (t₁ z) (pair₂ z) i₀ i l₀ l p₂ y) j
                 (m₂.reads room (t₁ z) (matrices_lent z))
 
             from_matrices :
@@ -223,11 +220,11 @@ module _ (o₀ b₀ e₀ i₀ l₀ a₀ c₀ p₀ : List ℕ) where
                 ∙ ap (λ (g : Step (Option Rows × Option Rows)). g >>= indices sec room root (meant_header h) (x z)) e
 
             pub fill_no_matrices :
-                {x : Refusal} → r₂ ≡ T.Refused x → Fills sec root (F.Refused x) given (lent o₁ b e i l a₀ c₀ p₂)
+                {x : Refusal} → r₂ ≡ Err x → Fills sec root (Err x) given (lent o₁ b e i l a₀ c₀ p₂)
             fill_no_matrices j = record { fills = λ z. from_matrices z (matrices_read j z) }
 
             module _
-                {x₂ y₂ : Part} (d₂ : r₂ ≡ T.Done x₂ y₂) {r₃ : Two} {a c p₃ : List ℕ}
+                {x₂ y₂ : Option ℕ} (d₂ : r₂ ≡ Ok (x₂, y₂)) {r₃ : Result (Option ℕ × Option ℕ) Refusal} {a c p₃ : List ℕ}
                 (m₃ : ReadsPair sec parents_table h.parents_at h.bone_count h.children_at h.child_count r₃
                 a₀ a c₀ c p₂ p₃)
               where
@@ -258,9 +255,9 @@ module _ (o₀ b₀ e₀ i₀ l₀ a₀ c₀ p₀ : List ℕ) where
                     read_pair sec room parents_table h.parents_at h.bone_count h.children_at h.child_count
                     (t₂ z)
 
-                indices-read : {q : Two} → r₃ ≡ q → (z : Zero) → PairBy parents_table room (t₂ z) (pair₃ z) a₀ a c₀ c p₃ q
+                indices-read : {q : Result (Option ℕ × Option ℕ) Refusal} → r₃ ≡ q → (z : Zero) → PairBy parents_table room (t₂ z) (pair₃ z) a₀ a c₀ c p₃ q
                 indices-read j z =
-                    subst (λ (q : Two). PairBy parents_table room (t₂ z) (pair₃ z) a₀ a c₀ c p₃ q) j
+                    subst (λ (q : Result (Option ℕ × Option ℕ) Refusal). PairBy parents_table room (t₂ z) (pair₃ z) a₀ a c₀ c p₃ q) j
                     (m₃.reads room (t₂ z) (indices-lent z))
 
                 from_indices :
@@ -271,11 +268,11 @@ module _ (o₀ b₀ e₀ i₀ l₀ a₀ c₀ p₀ : List ℕ) where
                     ∙ ap (λ (g : Step (Option Rows × Option Rows)). g >>= ending sec room root (meant_header h) (x z) (y z)) e
 
                 pub fill_no_indices :
-                    {x : Refusal} → r₃ ≡ T.Refused x → Fills sec root (F.Refused x) given (lent o₁ b e i l a c p₃)
+                    {x : Refusal} → r₃ ≡ Err x → Fills sec root (Err x) given (lent o₁ b e i l a c p₃)
                 fill_no_indices j = record { fills = λ z. from_indices z (indices-read j z) }
 
                 module _
-                    {x₃ y₃ : Part} (d₃ : r₃ ≡ T.Done x₃ y₃) {o p : List ℕ} (k : KeepsPart y₁ y₂ l o₁ o) {s : Stored}
+                    {x₃ y₃ : Option ℕ} (d₃ : r₃ ≡ Ok (x₃, y₃)) {o p : List ℕ} (k : KeepsPart y₁ y₂ l o₁ o) {s : Stored}
                     (w : Stores (pooled root skeleton (rows 0 1)) s p₃ p)
                   where
                     -- the tables with every part
@@ -303,7 +300,7 @@ module _ (o₀ b₀ e₀ i₀ l₀ a₀ c₀ p₀ : List ℕ) where
                         (columns_bones (meant_part y₁) (meant_part y₂) (t₃ z))
                         ∙ ap finish e
 
-                    pub fill-full : s ≡ Full → Fills sec root (F.Refused TableTooShort) given (lent o b e i l a c p)
+                    pub fill-full : s ≡ Full → Fills sec root (Err TableTooShort) given (lent o b e i l a c p)
                     fill-full f =
                         record {
                           fills =
@@ -315,7 +312,7 @@ module _ (o₀ b₀ e₀ i₀ l₀ a₀ c₀ p₀ : List ℕ) where
 
                     pub fill_done :
                         s ≡ Done → length o ≡ length o₀ → length b ≡ length b₀ → length e ≡ length e₀ → length l ≡ length l₀ →
-                        Fills sec root (F.Read (skeleton_of h x₁ y₁ x₂ y₂ x₃ y₃)) given (lent o b e i l a c p)
+                        Fills sec root (Ok (skeleton_of h x₁ y₁ x₂ y₂ x₃ y₃)) given (lent o b e i l a c p)
                     unfolding table_words
                     fill_done f so sb se sl =
                         record {

@@ -1,4 +1,7 @@
 -- The ways out of `chains_in`, `bones_in`, `matrices_in`, `indices_in` and `keep`: one part of a reading. Assumes nothing.
+use Rattle.std.specs.Prelude.{None}
+use Rattle.std.specs.Prelude.{Option}
+use Rattle.std.specs.Prelude.{Err, Ok}
 use Prim.Native.Nat.{ℕ, ◌-◌}
 use native.Mathlib.Omega.{arith}
 use mathlib.Core.Path.{◌≡◌, refl, sym, ap, subst, ◌∙◌}
@@ -30,15 +33,12 @@ use Rattle.read_lists.specs.declared.Listed.TheVariants as L
 use Rattle.read_lists.proofs.Outcomes.{Gives, list-refused, list_absent, list_at}
 use Rattle.read_lists.proofs.Frames.{list_framed}
 use Rattle.read.specs.Parts.{meant_part, Fits, ReadsChains, ReadsBonesIn, ListLeft, ReadsListIn, KeepsPart}
-use Rattle.read.specs.declared.Part.{Part}
-use Rattle.read.specs.declared.Part.TheVariants.{Absent, Of}
-use Rattle.read.specs.declared.parts.Got.TheVariants as G
 use Rattle.read.proofs.Firsts.{array-first, list-first}
 
 -- ---- buckets with chains
 
 module _ {sec : Section} {va n : ℕ} {r : Buckets} {b₀ b e₀ e p₀ p : List ℕ} (m : ReadsBuckets sec va n 0 0 r b₀ b e₀ e p₀ p) where
-  pub chains_absent : r ≡ B.Absent → ReadsChains sec va n (G.Done Absent) b₀ b e₀ e p₀ p
+  pub chains_absent : r ≡ B.Absent → ReadsChains sec va n (Ok None) b₀ b e₀ e p₀ p
   chains_absent i =
       record {
         reads =
@@ -47,7 +47,7 @@ module _ {sec : Section} {va n : ℕ} {r : Buckets} {b₀ b e₀ e p₀ p : List
             record { t = c.t; used = 0; used_entries = 0; is = c.is; holds = c.holds };
       }
 
-  pub chains-at : {f c k l : ℕ} → r ≡ B.At f c k l → ReadsChains sec va n (G.Done (Of c)) b₀ b e₀ e p₀ p
+  pub chains-at : {f c k l : ℕ} → r ≡ B.At f c k l → ReadsChains sec va n (Ok (Some c)) b₀ b e₀ e p₀ p
   chains-at {f} {c} {k} {l} i =
       record {
         reads =
@@ -63,13 +63,13 @@ module _ {sec : Section} {va n : ℕ} {r : Buckets} {b₀ b e₀ e p₀ p : List
             };
       }
 
-  pub chains-refused : {x : Refusal} → r ≡ B.Refused x → ReadsChains sec va n (G.Refused x) b₀ b e₀ e p₀ p
+  pub chains-refused : {x : Refusal} → r ≡ B.Refused x → ReadsChains sec va n (Err x) b₀ b e₀ e p₀ p
   chains-refused i = record { reads = λ room h. buckets_as m i h }
 
 -- ---- bones with names
 
 module _ {sec : Section} {pointer n : ℕ} {r : Block} {b₀ b p₀ p : List ℕ} (m : ReadsBlock sec pointer n 0 r b₀ b p₀ p) where
-  pub bones_absent : r ≡ K.Absent → ReadsBonesIn sec pointer n (G.Done Absent) b₀ b p₀ p
+  pub bones_absent : r ≡ K.Absent → ReadsBonesIn sec pointer n (Ok None) b₀ b p₀ p
   bones_absent i =
       record {
         reads =
@@ -85,7 +85,7 @@ module _ {sec : Section} {pointer n : ℕ} {r : Block} {b₀ b p₀ p : List ℕ
             };
       }
 
-  pub bones_at_lem : {f c k : ℕ} → r ≡ K.At f c k → ReadsBonesIn sec pointer n (G.Done (Of c)) b₀ b p₀ p
+  pub bones_at_lem : {f c k : ℕ} → r ≡ K.At f c k → ReadsBonesIn sec pointer n (Ok (Some c)) b₀ b p₀ p
   bones_at_lem {f} {c} {k} i =
       record {
         reads =
@@ -105,7 +105,7 @@ module _ {sec : Section} {pointer n : ℕ} {r : Block} {b₀ b p₀ p : List ℕ
             };
       }
 
-  pub bones-refused : {x : Refusal} → r ≡ K.Refused x → ReadsBonesIn sec pointer n (G.Refused x) b₀ b p₀ p
+  pub bones-refused : {x : Refusal} → r ≡ K.Refused x → ReadsBonesIn sec pointer n (Err x) b₀ b p₀ p
   bones-refused i =
       record {
         reads =
@@ -119,7 +119,7 @@ module _ {sec : Section} {pointer n : ℕ} {r : Block} {b₀ b p₀ p : List ℕ
 -- the tables by what the list added
 list_left :
     (sec : Section) (l : ListTable) (va n : ℕ) {o t₀ t p₀ p : List ℕ} (room : Room) (u : Tables) → lists.LentList l room u 0 t₀ o p₀ →
-    (x : Part) {k : ℕ} (g : Gives l room.pool (read_list sec room l va n u) (meant_part x) k t₀ t p) →
+    (x : Option ℕ) {k : ℕ} (g : Gives l room.pool (read_list sec room l va n u) (meant_part x) k t₀ t p) →
     Fits x (length (words_in l g.after.lists)) → ListLeft l room u (read_list sec room l va n u) x t₀ t p
 list_left sec l va n {t₀ = t₀} {t = t} {p = p} room u h x g f =
     let d = list_framed sec room l va n u g.after (meant_part x) g.is in
@@ -142,10 +142,10 @@ module _
     {sec : Section} {l : ListTable} {va n : ℕ} {o : List ℕ} {r : Listed} {t₀ t p₀ p : List ℕ}
     (m : ReadsList sec l va n 0 o r t₀ t p₀ p)
   where
-    pub list-none : r ≡ L.Absent → ReadsListIn sec l va n o (G.Done Absent) t₀ t p₀ p
-    list-none i = record { reads = λ room u h. list_left sec l va n room u h Absent (list_absent (m.reads h) i) tt }
+    pub list-none : r ≡ L.Absent → ReadsListIn sec l va n o (Ok None) t₀ t p₀ p
+    list-none i = record { reads = λ room u h. list_left sec l va n room u h None (list_absent (m.reads h) i) tt }
 
-    pub list-some : {f c k : ℕ} → r ≡ L.At f c k → ReadsListIn sec l va n o (G.Done (Of c)) t₀ t p₀ p
+    pub list-some : {f c k : ℕ} → r ≡ L.At f c k → ReadsListIn sec l va n o (Ok (Some c)) t₀ t p₀ p
     list-some {f} {c} {k} i =
         record {
           reads =
@@ -153,27 +153,27 @@ module _
               let g = list_at (m.reads h) i in
               let None = no_words (words_in l u.lists) h.size in
               let d = list-first sec room l u None va n (rows f c) g.after h.lists g.is in
-              let v : Gives l room.pool (read_list sec room l va n u) (meant_part (Of c)) k t₀ t p =
+              let v : Gives l room.pool (read_list sec room l va n u) (meant_part (Some c)) k t₀ t p =
               record {
                 after = g.after;
                 is = g.is ∙ ap (λ (x : ℕ). done (Some (rows x c), g.after)) d.zero;
                 size = g.size;
                 holds = g.holds;
               } in
-              list_left sec l va n room u h (Of c) v d.within;
+              list_left sec l va n room u h (Some c) v d.within;
         }
 
-    pub list_lost : {x : Refusal} → r ≡ L.Refused x → ReadsListIn sec l va n o (G.Refused x) t₀ t p₀ p
+    pub list_lost : {x : Refusal} → r ≡ L.Refused x → ReadsListIn sec l va n o (Err x) t₀ t p₀ p
     list_lost i = record { reads = λ room u h. list-refused (m.reads h) i }
 
 -- ---- the kept words
 
-module _ {local b₀ : List ℕ} {x y : Part} where
-  pub keeps-no_bones : x ≡ Absent → KeepsPart x y local b₀ b₀
+module _ {local b₀ : List ℕ} {x y : Option ℕ} where
+  pub keeps-no_bones : x ≡ None → KeepsPart x y local b₀ b₀
   keeps-no_bones e = rw e (record { keeps = λ m t h o f e g. h })
 
-  pub keeps-no_words : {n : ℕ} → x ≡ Of n → y ≡ Absent → KeepsPart x y local b₀ b₀
+  pub keeps-no_words : {n : ℕ} → x ≡ Some n → y ≡ None → KeepsPart x y local b₀ b₀
   keeps-no_words e d = rw (e, d) (record { keeps = λ m t h o f e g. h })
 
-  pub keeps_both : {n w : ℕ} {b : List ℕ} → x ≡ Of n → y ≡ Of w → KeepsColumns n w local b₀ b → KeepsPart x y local b₀ b
+  pub keeps_both : {n w : ℕ} {b : List ℕ} → x ≡ Some n → y ≡ Some w → KeepsColumns n w local b₀ b → KeepsPart x y local b₀ b
   keeps_both e d k = rw (e, d) (record { keeps = k.keeps })

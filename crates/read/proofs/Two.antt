@@ -1,4 +1,6 @@
 -- The ways out of `read_rows`, `read_matrices` and `read_indices`: two parts of a reading, one after the other. Assumes nothing.
+use Rattle.std.specs.Prelude.{Option}
+use Rattle.std.specs.Prelude.{Err, Ok, Result}
 use Prim.Native.Nat.{ℕ}
 use native.Mathlib.Omega.{arith}
 use mathlib.Core.Path.{◌≡◌, refl, sym, ap, subst, ◌∙◌}
@@ -26,10 +28,6 @@ use Rattle.read.specs.Parts.{meant_part, Fits, ChainsLeft, ChainsBy, ReadsChains
 use Rattle.read.specs.Parts.{listing, ListBy, ReadsListIn, read_rows, rows_only, RowsLent, ReadsRows}
 use Rattle.read.specs.Parts.{read_pair, PairLent, ReadsPair}
 use Rattle.read_records.specs.declared.header.Header.{Header}
-use Rattle.read.specs.declared.Part.{Part}
-use Rattle.read.specs.declared.parts.Got.{Got}
-use Rattle.read.specs.declared.parts.Got.TheVariants as G
-use Rattle.read.specs.declared.parts.Two.TheVariants as T
 
 -- ---- from the chains to the bones
 
@@ -41,7 +39,7 @@ rows_as :
 rows_as t a b k = rw (a, b) refl
 
 module _
-    (sec : Section) {room : Room} (va n : ℕ) {x : Part} {b e p : List ℕ}
+    (sec : Section) {room : Room} (va n : ℕ) {x : Option ℕ} {b e p : List ℕ}
     (c : ChainsLeft room (read_bucket_array sec room va n no_rows) x b e p)
   where
     beside : Beside no_rows c.t
@@ -80,39 +78,39 @@ module _
     no_skeletons = ap (λ (y : Tables). y.skeletons) (array-kept sec room va n no_rows c.t (meant_part x) c.is)
 
 module _
-    {sec : Section} (h : Header) (o₀ : List ℕ) {b₀ e₀ p₀ : List ℕ} {c : Got} {b e p₁ : List ℕ}
+    {sec : Section} (h : Header) (o₀ : List ℕ) {b₀ e₀ p₀ : List ℕ} {c : Result (Option ℕ) Refusal} {b e p₁ : List ℕ}
     (m : ReadsChains sec h.buckets_at h.bucket_count c b₀ b e₀ e p₀ p₁)
   where
     chains :
-        {y : Got} → c ≡ y → (room : Room) → RowsLent room o₀ b₀ e₀ p₀ →
+        {y : Result (Option ℕ) Refusal} → c ≡ y → (room : Room) → RowsLent room o₀ b₀ e₀ p₀ →
         ChainsBy room (read_bucket_array sec room h.buckets_at h.bucket_count no_rows) b e p₁ y
     chains i room l =
-        subst (λ (y : Got). ChainsBy room (read_bucket_array sec room h.buckets_at h.bucket_count no_rows) b e p₁ y) i
+        subst (λ (y : Result (Option ℕ) Refusal). ChainsBy room (read_bucket_array sec room h.buckets_at h.bucket_count no_rows) b e p₁ y) i
         (m.reads room l.holds)
 
-    pub rows_no_chains : {x : Refusal} → c ≡ G.Refused x → ReadsRows sec h (T.Refused x) o₀ o₀ b₀ b e₀ e p₀ p₁
+    pub rows_no_chains : {x : Refusal} → c ≡ Err x → ReadsRows sec h (Err x) o₀ o₀ b₀ b e₀ e p₀ p₁
     unfolding read_rows
     rows_no_chains i = record { reads = λ room l. rw (chains i room l) refl }
 
     module _
-        {x : Part} (i : c ≡ G.Done x) {d : Got} {o p : List ℕ}
+        {x : Option ℕ} (i : c ≡ Ok x) {d : Result (Option ℕ) Refusal} {o p : List ℕ}
         (k : ReadsBonesIn sec h.bones_at h.bone_count d o₀ o p₁ p)
       where
         bones :
-            {y : Got} → d ≡ y → (room : Room) → (l : RowsLent room o₀ b₀ e₀ p₀) →
+            {y : Result (Option ℕ) Refusal} → d ≡ y → (room : Room) → (l : RowsLent room o₀ b₀ e₀ p₀) →
             BonesBy room (chains i room l).t (read_bones_at sec room h.bones_at h.bone_count (chains i room l).t) o p y
         bones j room l =
             let v = chains i room l in
             subst
-            (λ (y : Got). BonesBy room v.t (read_bones_at sec room h.bones_at h.bone_count v.t) o p y) j
+            (λ (y : Result (Option ℕ) Refusal). BonesBy room v.t (read_bones_at sec room h.bones_at h.bone_count v.t) o p y) j
             (k.reads room v.t (bones-before sec h.buckets_at h.bucket_count v h.bones_at l.bones)
             (in_order sec h.buckets_at h.bucket_count v) (no_block sec h.buckets_at h.bucket_count v))
 
-        pub rows-no_bones : {y : Refusal} → d ≡ G.Refused y → ReadsRows sec h (T.Refused y) o₀ o b₀ b e₀ e p₀ p
+        pub rows-no_bones : {y : Refusal} → d ≡ Err y → ReadsRows sec h (Err y) o₀ o b₀ b e₀ e p₀ p
         unfolding read_rows
         rows-no_bones j = record { reads = λ room l. rw ((chains i room l).is, bones j room l) refl }
 
-        pub rows-done : {y : Part} → d ≡ G.Done y → ReadsRows sec h (T.Done x y) o₀ o b₀ b e₀ e p₀ p
+        pub rows-done : {y : Option ℕ} → d ≡ Ok y → ReadsRows sec h (Ok (x, y)) o₀ o b₀ b e₀ e p₀ p
         unfolding read_rows
         rows-done {y} j =
             record {
@@ -164,7 +162,7 @@ holds-no_words : (t : List ℕ) {w : List ℕ} → t ≡ cleared (length t) → 
 holds-no_words t z e = z ∙ sym (laid_none (length t)) ∙ ap (λ (a : List ℕ). laid a (length t)) (sym e)
 
 module _
-    {sec : Section} {l : ListTable} {va n : ℕ} {a₀ b₀ p₀ : List ℕ} {c : Got} {a p₁ : List ℕ}
+    {sec : Section} {l : ListTable} {va n : ℕ} {a₀ b₀ p₀ : List ℕ} {c : Result (Option ℕ) Refusal} {a p₁ : List ℕ}
     (m : ReadsListIn sec l va n b₀ c a₀ a p₀ p₁) (va' n' : ℕ)
   where
     first-lent : {room : Room} {u : Tables} → PairLent l room u a₀ b₀ p₀ → lists.LentList l room u 0 a₀ b₀ p₀
@@ -179,17 +177,17 @@ module _
         }
 
     first_read :
-        {y : Got} → c ≡ y → (room : Room) (u : Tables) → PairLent l room u a₀ b₀ p₀ →
+        {y : Result (Option ℕ) Refusal} → c ≡ y → (room : Room) (u : Tables) → PairLent l room u a₀ b₀ p₀ →
         ListBy l room u (read_list sec room l va n u) a₀ a p₁ y
     first_read i room u g =
-        subst (λ (y : Got). ListBy l room u (read_list sec room l va n u) a₀ a p₁ y) i (m.reads room u (first-lent g))
+        subst (λ (y : Result (Option ℕ) Refusal). ListBy l room u (read_list sec room l va n u) a₀ a p₁ y) i (m.reads room u (first-lent g))
 
-    pub pair_no_first : {x : Refusal} → c ≡ G.Refused x → ReadsPair sec l va n va' n' (T.Refused x) a₀ a b₀ b₀ p₀ p₁
+    pub pair_no_first : {x : Refusal} → c ≡ Err x → ReadsPair sec l va n va' n' (Err x) a₀ a b₀ b₀ p₀ p₁
     unfolding read_pair
     pair_no_first i = record { reads = λ room u g. rw (first_read i room u g) refl }
 
     module _
-        {x : Part} (i : c ≡ G.Done x) (same : length a ≡ length a₀) {d : Got} {b p : List ℕ}
+        {x : Option ℕ} (i : c ≡ Ok x) (same : length a ≡ length a₀) {d : Result (Option ℕ) Refusal} {b p : List ℕ}
         (k : ReadsListIn sec (twin l) va' n' a d b₀ b p₁ p)
       where
         -- the tables after the first list
@@ -213,18 +211,18 @@ module _
             }
 
         second-read :
-            {y : Got} → d ≡ y → (room : Room) (u : Tables) (g : PairLent l room u a₀ b₀ p₀) →
+            {y : Result (Option ℕ) Refusal} → d ≡ y → (room : Room) (u : Tables) (g : PairLent l room u a₀ b₀ p₀) →
             ListBy (twin l) room (between room u g) (read_list sec room (twin l) va' n' (between room u g)) b₀ b p y
         second-read j room u g =
             let v = between room u g in
-            subst (λ (y : Got). ListBy (twin l) room v (read_list sec room (twin l) va' n' v) b₀ b p y) j
+            subst (λ (y : Result (Option ℕ) Refusal). ListBy (twin l) room v (read_list sec room (twin l) va' n' v) b₀ b p y) j
             (k.reads room v (second-lent room u g))
 
-        pub pair-no_second : {y : Refusal} → d ≡ G.Refused y → ReadsPair sec l va n va' n' (T.Refused y) a₀ a b₀ b p₀ p
+        pub pair-no_second : {y : Refusal} → d ≡ Err y → ReadsPair sec l va n va' n' (Err y) a₀ a b₀ b p₀ p
         unfolding read_pair
         pair-no_second j = record { reads = λ room u g. rw ((first_read i room u g).is, second-read j room u g) refl }
 
-        pub pair-done : {y : Part} → d ≡ G.Done y → ReadsPair sec l va n va' n' (T.Done x y) a₀ a b₀ b p₀ p
+        pub pair-done : {y : Option ℕ} → d ≡ Ok y → ReadsPair sec l va n va' n' (Ok (x, y)) a₀ a b₀ b p₀ p
         unfolding read_pair
         pair-done {y} j =
             record {

@@ -1,4 +1,6 @@
 -- The ways out of `read`: root 0, a refusal, and a skeleton read. Assumes nothing.
+use Rattle.std.specs.Prelude.{None}
+use Rattle.std.specs.Prelude.{Err, Ok, Result}
 use Prim.Native.Nat.{ℕ, zero, suc}
 use mathlib.Core.Path.{◌≡◌, refl, sym, ap, subst, ◌∙◌}
 use Rattle.std.specs.Prelude.{Option, Some}
@@ -14,10 +16,6 @@ use Rattle.format.specs.Read.{Step, read_new_skeleton, skeleton_from, read_skele
 use Rattle.read.specs.Lent.{Lent, lent, read_room, cleared_all, laid_all}
 use Rattle.read.specs.Reads.{FilledBy, Fills, meant_read, answer_of, read_leaves, Reads}
 use Rattle.read.specs.declared.Skeleton.{Skeleton}
-use Rattle.read.specs.declared.Filled.{Filled}
-use Rattle.read.specs.declared.Filled.TheVariants as F
-use Rattle.read.specs.declared.SkeletonRead.{SkeletonRead}
-use Rattle.read.specs.declared.SkeletonRead.TheVariants.{Nothing, Read, Refused}
 
 -- ---- tables of the same lengths
 
@@ -65,25 +63,25 @@ reading-new sec room zero n = absurd (n refl)
 reading-new sec room (suc a) n = refl
 
 gives :
-    {g : Step (Option SkeletonRow)} (v : Step (Option SkeletonRow)) (r : SkeletonRead) (t₀ t : Lent) → g ≡ v →
+    {g : Step (Option SkeletonRow)} (v : Step (Option SkeletonRow)) (r : Result (Option Skeleton) Refusal) (t₀ t : Lent) → g ≡ v →
     meant_read r ≡ answer_of v → t ≡ read_leaves v t₀ → Reads g r t₀ t
 gives v r t₀ t e a l = rw e (record { answer = a; tables = l })
 
 module _ (sec : Section) (root : ℕ) (t₀ : Lent) where
-  pub read_none : (t : Lent) → root ≡ 0 → t ≡ cleared_all t₀ → Reads (read_skeleton sec (read_room t₀) root no_rows) Nothing t₀ t
+  pub read_none : (t : Lent) → root ≡ 0 → t ≡ cleared_all t₀ → Reads (read_skeleton sec (read_room t₀) root no_rows) (Ok None) t₀ t
   unfolding read_skeleton
   read_none t z e = rw z (record { answer = refl; tables = e })
 
   module _
-      (n : root ≡ 0 → ⊥) {t₁ : Lent} (e : t₁ ≡ cleared_all t₀) {r : Filled} {t₂ : Lent} (f : Fills sec root r t₁ t₂)
+      (n : root ≡ 0 → ⊥) {t₁ : Lent} (e : t₁ ≡ cleared_all t₀) {r : Result Skeleton Refusal} {t₂ : Lent} (f : Fills sec root r t₁ t₂)
     where
       sized : Sizes t₁ t₀
       sized = rw e (sizes_clear t₀)
 
-      filled : {y : Filled} → r ≡ y → FilledBy (read_new_skeleton sec (read_room t₀) root no_rows) t₁ t₂ y
+      filled : {y : Result Skeleton Refusal} → r ≡ y → FilledBy (read_new_skeleton sec (read_room t₀) root no_rows) t₁ t₂ y
       filled {y} i =
           subst (λ (x : Room). FilledBy (read_new_skeleton sec x root no_rows) t₁ t₂ y) (same-room sized)
-          (subst (λ (y : Filled). FilledBy (read_new_skeleton sec (read_room t₁) root no_rows) t₁ t₂ y) i
+          (subst (λ (y : Result Skeleton Refusal). FilledBy (read_new_skeleton sec (read_room t₁) root no_rows) t₁ t₂ y) i
           (f.fills (e ∙ sym (same_clear sized))))
 
       abbrev whole : Step SkeletonRow → Step (Option SkeletonRow)
@@ -91,21 +89,21 @@ module _ (sec : Section) (root : ℕ) (t₀ : Lent) where
 
       -- the fill refused, and its tables, of which only the lengths are known, were cleared
       pub read-refused :
-          {x : Refusal} (t : Lent) → r ≡ F.Refused x → Sizes t₂ t₁ → t ≡ cleared_all t₂ →
-          Reads (read_skeleton sec (read_room t₀) root no_rows) (Refused x) t₀ t
+          {x : Refusal} (t : Lent) → r ≡ Err x → Sizes t₂ t₁ → t ≡ cleared_all t₂ →
+          Reads (read_skeleton sec (read_room t₀) root no_rows) (Err x) t₀ t
       read-refused {x} t i s l =
-          gives (refused (number x)) (Refused x) t₀ t
+          gives (refused (number x)) (Err x) t₀ t
           (reading-new sec (read_room t₀) root n ∙ ap whole (filled i)) refl (l ∙ same_clear s ∙ same_clear sized)
 
       -- the tables hold the rows, and the pool was cleared
       pub read_done :
-          {x : Skeleton} (p : List ℕ) → r ≡ F.Read x → length t₂.pool ≡ length t₁.pool → p ≡ cleared (length t₂.pool) →
-          Reads (read_skeleton sec (read_room t₀) root no_rows) (Read x) t₀
+          {x : Skeleton} (p : List ℕ) → r ≡ Ok x → length t₂.pool ≡ length t₁.pool → p ≡ cleared (length t₂.pool) →
+          Reads (read_skeleton sec (read_room t₀) root no_rows) (Ok (Some x)) t₀
           (lent t₂.bones t₂.buckets t₂.entries t₂.inverse t₂.local t₂.parents t₂.children p)
       read_done {x} p i s l =
           let d = filled i in
           let q : p ≡ cleared (length t₀.pool) = l ∙ ap cleared (s ∙ sized.pool) in
-          gives (whole (done (_, d.u))) (Read x) t₀ _
+          gives (whole (done (_, d.u))) (Ok (Some x)) t₀ _
           (reading-new sec (read_room t₀) root n ∙ ap whole d.is) refl
           (with_pool_lem (table_words d.u) d.tables p ∙ same-laid sized (table_words d.u) p
           ∙ ap (λ (y : List ℕ). laid_all (table_words d.u) y t₀) q)

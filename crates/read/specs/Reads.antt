@@ -1,5 +1,7 @@
 -- What reading a skeleton promises: its answer is the format's, and so are the tables that it leaves (docs/FORMAT.md, "Reading and
 -- writing a skeleton", "Who can cause a refusal"). Definitions only.
+use Rattle.format.specs.declared.Refusal.{Refusal}
+use Rattle.std.specs.Prelude.{Err, Ok, Result}
 use Rattle.std.specs.Prelude.{ℕ, ◌≡◌, length}
 use Rattle.std.specs.Prelude.{Option, None, Some}
 use Rattle.format.specs.Result.{Res, refused, done}
@@ -12,10 +14,6 @@ use Rattle.format.specs.Words.{meant_words4}
 use Rattle.read.specs.Parts.{meant_part}
 use Rattle.read.specs.Lent.{Lent, read_room, cleared_all, laid_all}
 use Rattle.read.specs.declared.Skeleton.{Skeleton}
-use Rattle.read.specs.declared.Filled.{Filled}
-use Rattle.read.specs.declared.Filled.TheVariants as F
-use Rattle.read.specs.declared.SkeletonRead.{SkeletonRead}
-use Rattle.read.specs.declared.SkeletonRead.TheVariants.{Nothing, Read, Refused}
 
 abbrev pub meant_skeleton : Skeleton → SkeletonRow
 meant_skeleton s =
@@ -41,20 +39,20 @@ pub record FilledLeft (g : Step SkeletonRow) (s : Skeleton) (t₀ t : Lent) : Ty
   pub is : g ≡ done (meant_skeleton s, u)
   pub tables : t ≡ laid_all (table_words u) t.pool t₀
 
-abbrev pub FilledBy : Step SkeletonRow → Lent → Lent → Filled → Type 0
-FilledBy g t₀ t (F.Read s) = FilledLeft g s t₀ t
-FilledBy g t₀ t (F.Refused x) = g ≡ refused (number x)
+abbrev pub FilledBy : Step SkeletonRow → Lent → Lent → (Result Skeleton Refusal) → Type 0
+FilledBy g t₀ t (Ok s) = FilledLeft g s t₀ t
+FilledBy g t₀ t (Err x) = g ≡ refused (number x)
 
-pub record Fills (sec : Section) (root : ℕ) (r : Filled) (t₀ t : Lent) : Type 0 where
+pub record Fills (sec : Section) (root : ℕ) (r : Result Skeleton Refusal) (t₀ t : Lent) : Type 0 where
   pub fills : t₀ ≡ cleared_all t₀ → FilledBy (read_new_skeleton sec (read_room t₀) root no_rows) t₀ t r
 
 -- ---- the whole
 
 -- our answer as the format has it
-abbrev pub meant_read : SkeletonRead → Res (Option SkeletonRow)
-meant_read Nothing = done None
-meant_read (Read s) = done (Some (meant_skeleton s))
-meant_read (Refused x) = refused (number x)
+abbrev pub meant_read : (Result (Option Skeleton) Refusal) → Res (Option SkeletonRow)
+meant_read (Ok None) = done None
+meant_read (Ok (Some s)) = done (Some (meant_skeleton s))
+meant_read (Err x) = refused (number x)
 
 -- a reading's answer
 abbrev pub answer_of : Step (Option SkeletonRow) → Res (Option SkeletonRow)
@@ -68,6 +66,6 @@ read_leaves (done (None, u)) t₀ = cleared_all t₀
 read_leaves (done (Some s, u)) t₀ = laid_all (table_words u) (cleared (length t₀.pool)) t₀
 
 -- the reading g, with the answer r, of tables that were t₀
-pub record Reads (g : Step (Option SkeletonRow)) (r : SkeletonRead) (t₀ t : Lent) : Type 0 where
+pub record Reads (g : Step (Option SkeletonRow)) (r : Result (Option Skeleton) Refusal) (t₀ t : Lent) : Type 0 where
   pub answer : meant_read r ≡ answer_of g
   pub tables : t ≡ read_leaves g t₀

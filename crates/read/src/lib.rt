@@ -8,7 +8,6 @@ ghost use Rattle.blocks.specs.Places.{section};
 ghost use Rattle.read.specs.Lent.{lent, cleared_all, read_room};
 ghost use Rattle.read.specs.Reads.{Fills, Reads};
 
-use crate::parts::Two;
 use blocks::kinds::Kind;
 use blocks::pool;
 use blocks::pool::Stored;
@@ -18,14 +17,8 @@ use read_records::header::Headed;
 
 mod parts; // the parts, one after another
 
-// Whether a part stands, and how long it is: in rows, and in words of a list of matrices.
-#[derive(Clone, Copy)]
-pub enum Part {
-    Absent,
-    Of(usize),
-}
-
-// A skeleton that was read: the fields that stay, and which parts stand. Each part's rows are the first of its table.
+// A skeleton that was read: the fields that stay, and of each part that stands how long it is, in rows, and in words of a list of matrices.
+// Each part's rows are the first of its table.
 #[derive(Clone, Copy)]
 pub struct Skeleton {
     // the kind word, as it is stored
@@ -35,28 +28,12 @@ pub struct Skeleton {
     pub bucket_count: u16,
     pub bone_count: u16,
     pub child_count: u16,
-    pub buckets: Part,
-    pub bones: Part,
-    // in words, sixteen a matrix
-    pub inverse: Part,
-    pub local: Part,
-    pub parents: Part,
-    pub children: Part,
-}
-
-#[derive(Clone, Copy)]
-pub enum SkeletonRead {
-    // root 0
-    Nothing,
-    Read(Skeleton),
-    Refused(Refusal),
-}
-
-// What filling the tables comes to.
-#[derive(Clone, Copy)]
-enum Filled {
-    Read(Skeleton),
-    Refused(Refusal),
+    pub buckets: Option<usize>,
+    pub bones: Option<usize>,
+    pub inverse: Option<usize>,
+    pub local: Option<usize>,
+    pub parents: Option<usize>,
+    pub children: Option<usize>,
 }
 
 // Zeros in every table.
@@ -98,66 +75,56 @@ fn fill<'a>(
     parents: &mut [u16],
     children: &mut [u16],
     pool: &mut [u64],
-) -> Filled
+) -> Result<Skeleton, Refusal>
     ensures { Fills (section sys.now gfx.now) root result
         (lent bones.old buckets.old entries.old inverse.old
         local.old parents.old children.old pool.old)
         (lent bones.new buckets.new entries.new inverse.new
         local.new parents.new children.new pool.new) }
 {
-    match header::header_at(sys, gfx, root) {
-        Headed::Refused(r) => Filled::Refused(r),
-        Headed::At(h) => match parts::read_rows(sys, gfx, h, bones, buckets, entries, pool) {
-            Two::Refused(r) => Filled::Refused(r),
-            Two::Done(c, b) => match parts::read_matrices(
-                sys,
-                gfx,
-                h.inverse_at,
-                h.local_at,
-                h.bone_count,
-                inverse,
-                local,
-                pool,
-            ) {
-                Two::Refused(r) => Filled::Refused(r),
-                Two::Done(i, l) => match parts::read_indices(
-                    sys,
-                    gfx,
-                    h.parents_at,
-                    h.bone_count,
-                    h.children_at,
-                    h.child_count,
-                    parents,
-                    children,
-                    pool,
-                ) {
-                    Two::Refused(r) => Filled::Refused(r),
-                    Two::Done(p, q) => {
-                        parts::keep(bones, b, local, l);
-                        match pool::put(pool, root, Kind::Skeleton, 0, 1) {
-                            Stored::Full => Filled::Refused(Refusal::TableTooShort),
-                            Stored::Done => {
-                                let free = h.free;
-                                Filled::Read(Skeleton {
-                                    kind: h.kind,
-                                    free: free,
-                                    bucket_count: h.bucket_count,
-                                    bone_count: h.bone_count,
-                                    child_count: h.child_count,
-                                    buckets: c,
-                                    bones: b,
-                                    inverse: i,
-                                    local: l,
-                                    parents: p,
-                                    children: q,
-                                })
-                            }
-                        }
-                    }
-                },
-            },
-        },
+    let h = match header::header_at(sys, gfx, root) {
+        Headed::At(h) => h,
+        Headed::Refused(r) => return Err(r),
+    };
+    let (buckets_read, bones_read) = parts::read_rows(sys, gfx, h, bones, buckets, entries, pool)?;
+    let (inverse_read, local_read) = parts::read_matrices(
+        sys,
+        gfx,
+        h.inverse_at,
+        h.local_at,
+        h.bone_count,
+        inverse,
+        local,
+        pool,
+    )?;
+    let (parents_read, children_read) = parts::read_indices(
+        sys,
+        gfx,
+        h.parents_at,
+        h.bone_count,
+        h.children_at,
+        h.child_count,
+        parents,
+        children,
+        pool,
+    )?;
+    parts::keep(bones, bones_read, local, local_read);
+    if let Stored::Full = pool::put(pool, root, Kind::Skeleton, 0, 1) {
+        return Err(Refusal::TableTooShort);
     }
+    Ok(Skeleton {
+        kind: h.kind,
+        free: h.free,
+        bucket_count: h.bucket_count,
+        bone_count: h.bone_count,
+        child_count: h.child_count,
+        buckets: buckets_read,
+        bones: bones_read,
+        inverse: inverse_read,
+        local: local_read,
+        parents: parents_read,
+        children: children_read,
+    })
 }
 
 // Reads the skeleton at a root address of a section, the system and the graphics bytes, with an empty pool. Then the tables hold
@@ -178,7 +145,7 @@ pub fn read<'a>(
     parents: &mut [u16],
     children: &mut [u16],
     pool: &mut [u64],
-) -> SkeletonRead
+) -> Result<Option<Skeleton>, Refusal>
     ensures tables { Reads (read_skeleton (section sys.now gfx.now)
         (read_room (lent bones.old buckets.old entries.old inverse.old
         local.old parents.old children.old pool.old)) root no_rows) result
@@ -191,20 +158,20 @@ pub fn read<'a>(
         bones, buckets, entries, inverse, local, parents, children, pool,
     );
     if root == 0 {
-        return SkeletonRead::Nothing;
+        return Ok(None);
     }
     match fill(
         sys, gfx, root, bones, buckets, entries, inverse, local, parents, children, pool,
     ) {
-        Filled::Read(s) => {
+        Ok(s) => {
             tables::clear64(pool);
-            SkeletonRead::Read(s)
+            Ok(Some(s))
         }
-        Filled::Refused(r) => {
+        Err(r) => {
             clear_all(
                 bones, buckets, entries, inverse, local, parents, children, pool,
             );
-            SkeletonRead::Refused(r)
+            Err(r)
         }
     }
 }

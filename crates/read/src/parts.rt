@@ -6,26 +6,13 @@ ghost use Rattle.format.specs.Tables.{inverse_table, parents_table};
 ghost use Rattle.read_lists.specs.Lists.{matrix_table, index_table};
 ghost use Rattle.read.specs.Parts.{ReadsChains, ReadsBonesIn, ReadsListIn, ReadsRows, ReadsPair, KeepsPart};
 
-use crate::Part;
 use format::Refusal;
 use read_bones::{Block, columns};
 use read_chains::Buckets;
 use read_lists::{Indices, Listed, Matrices};
 use read_records::header::Header;
 
-// What a part comes to.
-#[derive(Clone, Copy)]
-pub enum Got {
-    Done(Part),
-    Refused(Refusal),
-}
-
-// What two parts come to.
-#[derive(Clone, Copy)]
-pub enum Two {
-    Done(Part, Part),
-    Refused(Refusal),
-}
+// Where a part stands, how long it is: in rows, and in words of a list of matrices.
 
 // ---- one part
 
@@ -38,15 +25,15 @@ fn chains_in<'a>(
     buckets: &mut [u32],
     entries: &mut [u32],
     pool: &mut [u64],
-) -> Got
+) -> Result<Option<usize>, Refusal>
     ensures { ReadsChains (section sys.now gfx.now) va n result
         buckets.old buckets.new
         entries.old entries.new pool.old pool.new }
 {
     match read_chains::read_buckets(sys, gfx, va, n, buckets, 0, entries, 0, pool) {
-        Buckets::Absent => Got::Done(Part::Absent),
-        Buckets::At(_, count, _, _) => Got::Done(Part::Of(count as usize)),
-        Buckets::Refused(r) => Got::Refused(r),
+        Buckets::Absent => Ok(None),
+        Buckets::At(_, count, _, _) => Ok(Some(count as usize)),
+        Buckets::Refused(r) => Err(r),
     }
 }
 
@@ -58,14 +45,14 @@ fn bones_in(
     n: u16,
     bones: &mut [u32],
     pool: &mut [u64],
-) -> Got
+) -> Result<Option<usize>, Refusal>
     ensures { ReadsBonesIn (section sys.now gfx.now) pointer n result
         bones.old bones.new pool.old pool.new }
 {
     match read_bones::read_block(sys, gfx, pointer, n as usize, bones, 0, pool) {
-        Block::Absent => Got::Done(Part::Absent),
-        Block::At(_, count, _) => Got::Done(Part::Of(count as usize)),
-        Block::Refused(r) => Got::Refused(r),
+        Block::Absent => Ok(None),
+        Block::At(_, count, _) => Ok(Some(count as usize)),
+        Block::Refused(r) => Err(r),
     }
 }
 
@@ -79,14 +66,14 @@ fn matrices_in(
     own: &mut [u32],
     other: &[u32],
     pool: &mut [u64],
-) -> Got
+) -> Result<Option<usize>, Refusal>
     ensures { ReadsListIn (section sys.now gfx.now) (matrix_table which) va n
         other.now result own.old own.new pool.old pool.new }
 {
     match read_lists::read_matrices(sys, gfx, which, va, n, own, 0, other, pool) {
-        Listed::Absent => Got::Done(Part::Absent),
-        Listed::At(_, count, _) => Got::Done(Part::Of(count)),
-        Listed::Refused(r) => Got::Refused(r),
+        Listed::Absent => Ok(None),
+        Listed::At(_, count, _) => Ok(Some(count)),
+        Listed::Refused(r) => Err(r),
     }
 }
 
@@ -100,14 +87,14 @@ fn indices_in(
     own: &mut [u16],
     other: &[u16],
     pool: &mut [u64],
-) -> Got
+) -> Result<Option<usize>, Refusal>
     ensures { ReadsListIn (section sys.now gfx.now) (index_table which) va n
         other.now result own.old own.new pool.old pool.new }
 {
     match read_lists::read_indices(sys, gfx, which, va, n, own, 0, other, pool) {
-        Listed::Absent => Got::Done(Part::Absent),
-        Listed::At(_, count, _) => Got::Done(Part::Of(count)),
-        Listed::Refused(r) => Got::Refused(r),
+        Listed::Absent => Ok(None),
+        Listed::At(_, count, _) => Ok(Some(count)),
+        Listed::Refused(r) => Err(r),
     }
 }
 
@@ -122,12 +109,12 @@ pub fn read_rows<'a>(
     buckets: &mut [u32],
     entries: &mut [u32],
     pool: &mut [u64],
-) -> Two
+) -> Result<(Option<usize>, Option<usize>), Refusal>
     ensures tables { ReadsRows (section sys.now gfx.now) h result
         bones.old bones.new buckets.old buckets.new
         entries.old entries.new pool.old pool.new }
 {
-    let c = chains_in(
+    let chains = chains_in(
         sys,
         gfx,
         h.buckets_at,
@@ -135,14 +122,9 @@ pub fn read_rows<'a>(
         buckets,
         entries,
         pool,
-    );
-    match c {
-        Got::Refused(r) => Two::Refused(r),
-        Got::Done(x) => match bones_in(sys, gfx, h.bones_at, h.bone_count, bones, pool) {
-            Got::Refused(r) => Two::Refused(r),
-            Got::Done(y) => Two::Done(x, y),
-        },
-    }
+    )?;
+    let block = bones_in(sys, gfx, h.bones_at, h.bone_count, bones, pool)?;
+    Ok((chains, block))
 }
 
 // The inverse matrices, then the local ones.
@@ -155,12 +137,12 @@ pub fn read_matrices(
     inverse: &mut [u32],
     local: &mut [u32],
     pool: &mut [u64],
-) -> Two
+) -> Result<(Option<usize>, Option<usize>), Refusal>
     ensures tables { ReadsPair (section sys.now gfx.now)
         inverse_table inverse_at n local_at n result inverse.old inverse.new
         local.old local.new pool.old pool.new }
 {
-    let i = matrices_in(
+    let first = matrices_in(
         sys,
         gfx,
         Matrices::Inverse,
@@ -169,23 +151,9 @@ pub fn read_matrices(
         inverse,
         local,
         pool,
-    );
-    match i {
-        Got::Refused(r) => Two::Refused(r),
-        Got::Done(x) => match matrices_in(
-            sys,
-            gfx,
-            Matrices::Local,
-            local_at,
-            n,
-            local,
-            inverse,
-            pool,
-        ) {
-            Got::Refused(r) => Two::Refused(r),
-            Got::Done(y) => Two::Done(x, y),
-        },
-    }
+    )?;
+    let second = matrices_in(sys, gfx, Matrices::Local, local_at, n, local, inverse, pool)?;
+    Ok((first, second))
 }
 
 // The parents, then the child entries.
@@ -199,12 +167,12 @@ pub fn read_indices(
     parents: &mut [u16],
     children: &mut [u16],
     pool: &mut [u64],
-) -> Two
+) -> Result<(Option<usize>, Option<usize>), Refusal>
     ensures tables { ReadsPair (section sys.now gfx.now)
         parents_table parents_at n children_at m result parents.old parents.new
         children.old children.new pool.old pool.new }
 {
-    let p = indices_in(
+    let first = indices_in(
         sys,
         gfx,
         Indices::Parents,
@@ -213,34 +181,25 @@ pub fn read_indices(
         parents,
         children,
         pool,
-    );
-    match p {
-        Got::Refused(r) => Two::Refused(r),
-        Got::Done(x) => match indices_in(
-            sys,
-            gfx,
-            Indices::Children,
-            children_at,
-            m,
-            children,
-            parents,
-            pool,
-        ) {
-            Got::Refused(r) => Two::Refused(r),
-            Got::Done(y) => Two::Done(x, y),
-        },
-    }
+    )?;
+    let second = indices_in(
+        sys,
+        gfx,
+        Indices::Children,
+        children_at,
+        m,
+        children,
+        parents,
+        pool,
+    )?;
+    Ok((first, second))
 }
 
 // The kept words of the bones, where bones and local matrices stand.
-pub fn keep(bones: &mut [u32], rows: Part, local: &[u32], words: Part)
+pub fn keep(bones: &mut [u32], rows: Option<usize>, local: &[u32], words: Option<usize>)
     ensures table { KeepsPart rows words local.now bones.old bones.new }
 {
-    match rows {
-        Part::Absent => {}
-        Part::Of(n) => match words {
-            Part::Absent => {}
-            Part::Of(w) => columns::keep_columns(bones, n, local, w),
-        },
+    if let (Some(n), Some(w)) = (rows, words) {
+        columns::keep_columns(bones, n, local, w);
     }
 }

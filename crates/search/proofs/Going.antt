@@ -19,8 +19,7 @@ use Rattle.format.specs.declared.Place.{Place}
 use Rattle.rows.specs.Row.{row_words, row_at}
 use Rattle.rows.specs.Value.{our_place}
 use Rattle.rows.proofs.Rows.{get_or_column, length_column}
-use Rattle.search.specs.First.{first_of, stored_name, stored_names}
-use Rattle.search.specs.declared.named.First.TheVariants.{At, Nothing}
+use Rattle.search.specs.First.{stored_name, stored_names}
 
 -- ---- one name
 
@@ -84,7 +83,7 @@ module _ (sec : Section) (key : ℕ) (t : List ℕ) (n : ℕ) where
       rw (drop-cons names i None l, get_or_column (stored_name sec) None n i t h) refl
 
   module _ {i : ℕ} (g : Going i) where
-    pub going_all : n ≤ i → first_of Nothing ≡ first_key key 0 names
+    pub going_all : n ≤ i → None ≡ first_key key 0 names
     unfolding first_key
     going_all h =
         let k : length names ≤ i = omega (arith, length_column (stored_name sec) n t) in
@@ -99,7 +98,7 @@ module _ (sec : Section) (key : ℕ) (t : List ℕ) (n : ℕ) where
             ap (λ (b : Bool). cond b (Some i) (first_key key (suc i) (drop (suc i) names))) (sym q ∙ row-key sec key t i e f)
             ∙ sym (row_next i h) ∙ g.left
 
-        pub going_found : r ≡ true → first_of (At i) ≡ first_key key 0 names
+        pub going_found : r ≡ true → Some i ≡ first_key key 0 names
         going_found q = row-left q
 
         pub going_more : r ≡ false → Going (i + 1)

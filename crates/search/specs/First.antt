@@ -1,14 +1,8 @@
--- What the search of a table answers, and the names it goes through (docs/FORMAT.md, "Joints and names"). Definitions only.
+-- The names that the search of a table goes through (docs/FORMAT.md, "Joints and names"). Definitions only.
 use Rattle.std.specs.Prelude.{ℕ, List, map}
-use Rattle.std.specs.Prelude.{Option, None, Some}
+use Rattle.std.specs.Prelude.{Option}
 use Rattle.format.specs.Section.{Section, Place, name_bytes}
 use Rattle.format.specs.Bone.{Bone, map_name}
-use Rattle.search.specs.declared.named.First.{First}
-use Rattle.search.specs.declared.named.First.TheVariants.{At, Nothing}
-
-abbrev pub first_of : First → Option ℕ
-first_of (At i) = Some i
-first_of Nothing = None
 
 -- the stored name bytes of a bone, or of each of some bones
 abbrev pub stored_name : Section → Bone Place → Option (List ℕ)

@@ -5,17 +5,10 @@ ghost use Rattle.format.specs.Bone.{map_name};
 ghost use Rattle.format.specs.Rows.{place_of, bones_of};
 ghost use Rattle.format.specs.Search.{has_key, first_key};
 ghost use Rattle.blocks.specs.Places.{section};
-ghost use Rattle.search.specs.First.{first_of, stored_names};
+ghost use Rattle.search.specs.First.{stored_names};
 
 use blocks::names;
 use format::Place;
-
-#[derive(Clone, Copy)]
-pub(crate) enum First {
-    // its position
-    At(usize),
-    Nothing,
-}
 
 // Whether the name at a place hashes to a key, its stored bytes as they are. Address 0 is no name, and hashes to none.
 fn has_key<'a>(sys: &'a [u8], gfx: &'a [u8], p: Place, key: u32) -> bool
@@ -36,16 +29,14 @@ pub(crate) fn first_named<'a>(
     bones: &[u32],
     n: usize,
     key: u32,
-) -> First
-    ensures answer { first_of result ≡ first_key key 0
+) -> Option<usize>
+    ensures answer { result ≡ first_key key 0
         (stored_names (section sys.now gfx.now) (bones_of n bones.now)) }
 {
-    let mut i = 0;
-    while i < n {
+    for i in 0..n {
         if has_key(sys, gfx, rows::name_at(bones, i), key) {
-            return First::At(i);
+            return Some(i);
         }
-        i += 1;
     }
-    First::Nothing
+    None
 }
