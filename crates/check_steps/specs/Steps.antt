@@ -1,26 +1,23 @@
 -- The answer of the check as the format has it, and the steps to it: how long the parts read are, what is answered behind an answer,
 -- what becomes of the reading's tables. Definitions only.
 use Rattle.std.specs.Prelude.{ℕ, Bool}
-use Rattle.std.specs.Prelude.{Option, None, Some}
+use Rattle.std.specs.Prelude.{Option, None, Some, Result, Ok, Err}
 use Rattle.format.specs.Result.{Res, refused, done, ◌>>=◌, need}
-use Rattle.format.specs.Refusal.{number}
+use Rattle.format.specs.declared.Refusal.{Refusal}
 use Rattle.read.specs.Lent.{Lent, cleared_all}
 use Rattle.read.specs.Parts.{part_rows}
-use Rattle.read.specs.declared.SkeletonRead.{SkeletonRead}
-use Rattle.read.specs.declared.SkeletonRead.TheVariants as R
+use Rattle.read.specs.declared.Skeleton.{Skeleton}
 use Rattle.check_steps.specs.declared.Counts.{Counts}
-use Rattle.check_steps.specs.declared.Checked.{Checked}
-use Rattle.check_steps.specs.declared.Checked.TheVariants.{Nothing, Accepted, Refused}
 
 -- ---- how long each part is; absent and empty are alike
 
 abbrev pub no_counts : Counts
 no_counts = record { bones = 0; buckets = 0; inverse = 0; local = 0; parents = 0; children = 0 }
 
-abbrev pub counts_of : SkeletonRead → Counts
-counts_of R.Nothing = no_counts
-counts_of (R.Refused x) = no_counts
-counts_of (R.Read s) =
+abbrev pub counts_of : Result (Option Skeleton) Refusal → Counts
+counts_of (Ok None) = no_counts
+counts_of (Err x) = no_counts
+counts_of (Ok (Some s)) =
     record {
       bones = part_rows s.bones;
       buckets = part_rows s.buckets;
@@ -32,12 +29,6 @@ counts_of (R.Read s) =
 
 -- ---- answers
 
--- our answer as the format has it: the number of bones read, none for root 0, or the refusal's number
-abbrev pub checked_of : Checked → Res (Option ℕ)
-checked_of Nothing = done None
-checked_of (Accepted n) = done (Some n)
-checked_of (Refused x) = refused (number x)
-
 -- what is answered of a reading so far: n bones read, if there is room to derive from them
 abbrev pub begun : {A : Type 0} → Res (Option A) → ℕ → Bool → Res (Option ℕ)
 begun (refused c) n room = refused c
@@ -47,7 +38,7 @@ begun (done (Some s)) n room = do
   done (Some n)
 
 -- a stage's test goes on from the answer so far: it is made only where there is a number of bones yet
-unfoldable pub behind : Res (Option ℕ) → (ℕ → Res (Unit {0})) → Res (Option ℕ)
+abbrev pub behind : Res (Option ℕ) → (ℕ → Res (Unit {0})) → Res (Option ℕ)
 behind (refused c) test = refused c
 behind (done None) test = done None
 behind (done (Some n)) test = do
@@ -57,7 +48,7 @@ behind (done (Some n)) test = do
 -- ---- tables
 
 -- the reading's tables stay after an acceptance, and are cleared else
-unfoldable pub kept_by : Checked → Lent → Lent
-kept_by Nothing t = cleared_all t
-kept_by (Accepted n) t = t
-kept_by (Refused x) t = cleared_all t
+abbrev pub kept_by : Result (Option ℕ) Refusal → Lent → Lent
+kept_by (Ok None) t = cleared_all t
+kept_by (Ok (Some n)) t = t
+kept_by (Err x) t = cleared_all t

@@ -4,31 +4,21 @@
 
 ghost use Rattle.std.specs.Prelude.{◌≡◌, length};
 ghost use Rattle.format.specs.Deriving.{derives};
+ghost use Rattle.format.specs.Refusal.{outcome};
 ghost use Rattle.format.specs.Rows.{cleared};
 ghost use Rattle.tables.specs.Working.{derive_room};
 ghost use Rattle.check_stages.specs.Agreement.{chains_stage, indices_stage, matrices_stage};
 ghost use Rattle.read.specs.Lent.{lent};
 ghost use Rattle.read.specs.Reads.{meant_read};
-ghost use Rattle.check_steps.specs.Steps.{checked_of, counts_of, begun, behind, kept_by};
-ghost use Rattle.read.specs.Parts.{part_rows};
+ghost use Rattle.check_steps.specs.Steps.{counts_of, begun, behind, kept_by};
 
 use check_stages::{Agreement, chains_stage, indices_stage, matrices_stage, room};
 use format::Refusal;
-use read::{Part, SkeletonRead, clear_all};
+use read::{Skeleton, clear_all};
 use tables::{clear16, clear32};
 
-// The answer of the check.
-#[derive(Clone, Copy)]
-pub enum Checked {
-    // root 0
-    Nothing,
-    // the number of bones read
-    Accepted(usize),
-    Refused(Refusal),
-}
-
 // How long each part is that was read: in rows, and in words of a list of matrices. What is absent counts 0.
-#[derive(Clone, Copy)]
+#[derive(Clone, Copy, Debug, Default, PartialEq, Eq)]
 pub struct Counts {
     pub bones: usize,
     pub buckets: usize,
@@ -38,57 +28,25 @@ pub struct Counts {
     pub children: usize,
 }
 
-fn part_rows(p: Part) -> usize
-    ensures answer { result ≡ part_rows p }
-{
-    match p {
-        Part::Absent => 0,
-        Part::Of(n) => n,
-    }
-}
-
-pub fn count_parts(r: SkeletonRead) -> Counts
+pub fn count_parts(r: Result<Option<Skeleton>, Refusal>) -> Counts
     ensures answer { result ≡ counts_of r }
 {
-    match r {
-        SkeletonRead::Read(s) => {
-            let bones = s.bones;
-            let buckets = s.buckets;
-            let inverse = s.inverse;
-            let local = s.local;
-            let parents = s.parents;
-            let children = s.children;
-            Counts {
-                bones: part_rows(bones),
-                buckets: part_rows(buckets),
-                inverse: part_rows(inverse),
-                local: part_rows(local),
-                parents: part_rows(parents),
-                children: part_rows(children),
-            }
-        }
-        SkeletonRead::Nothing => Counts {
-            bones: 0,
-            buckets: 0,
-            inverse: 0,
-            local: 0,
-            parents: 0,
-            children: 0,
-        },
-        SkeletonRead::Refused(_) => Counts {
-            bones: 0,
-            buckets: 0,
-            inverse: 0,
-            local: 0,
-            parents: 0,
-            children: 0,
-        },
+    let Ok(Some(s)) = r else {
+        return Counts::default();
+    };
+    Counts {
+        bones: s.bones.unwrap_or(0),
+        buckets: s.buckets.unwrap_or(0),
+        inverse: s.inverse.unwrap_or(0),
+        local: s.local.unwrap_or(0),
+        parents: s.parents.unwrap_or(0),
+        children: s.children.unwrap_or(0),
     }
 }
 
 // Reading's answer, then 1 where working tables of so many words lack the rows for n bones.
 pub fn begin(
-    r: SkeletonRead,
+    r: Result<Option<Skeleton>, Refusal>,
     n: usize,
     buckets: usize,
     entries: usize,
@@ -97,41 +55,39 @@ pub fn begin(
     parents: usize,
     children: usize,
     pending: usize,
-) -> Checked
-    ensures answer { checked_of result
+) -> Result<Option<usize>, Refusal>
+    ensures answer { outcome result
         ≡ begun (meant_read r) n (derives (derive_room buckets entries inverse local parents children pending) n) }
 {
-    match r {
-        SkeletonRead::Nothing => Checked::Nothing,
-        SkeletonRead::Refused(x) => Checked::Refused(x),
-        SkeletonRead::Read(_) => {
-            if room(
-                n, buckets, entries, inverse, local, parents, children, pending,
-            ) {
-                return Checked::Accepted(n);
-            }
-            Checked::Refused(Refusal::TableTooShort)
-        }
+    let Some(_) = r? else {
+        return Ok(None);
+    };
+    if room(
+        n, buckets, entries, inverse, local, parents, children, pending,
+    ) {
+        Ok(Some(n))
+    } else {
+        Err(Refusal::TableTooShort)
     }
 }
 
 // 21: the chains, where nothing was refused so far. The working tables are zero after it.
 pub fn chains_step(
-    v: Checked,
+    v: Result<Option<usize>, Refusal>,
     bones: &[u32],
     buckets: &[u32],
     count: usize,
     entries: &[u32],
     derived_buckets: &mut [u32],
     derived_entries: &mut [u32],
-) -> Checked
-    ensures answer { checked_of result ≡ behind (checked_of v) (λ n.
+) -> Result<Option<usize>, Refusal>
+    ensures answer { outcome result ≡ behind (outcome v) (λ n.
         chains_stage n bones.now count buckets.now entries.now
         (length derived_buckets.old) (length derived_entries.old)) }
     ensures work { (derived_buckets.new ≡ cleared (length derived_buckets.old))
         × (derived_entries.new ≡ cleared (length derived_entries.old)) }
 {
-    if let Checked::Accepted(n) = v {
+    if let Ok(Some(n)) = v {
         if let Agreement::Refused(x) = chains_stage(
             bones,
             n,
@@ -141,9 +97,9 @@ pub fn chains_step(
             derived_buckets,
             derived_entries,
         ) {
-            return Checked::Refused(x);
+            return Err(x);
         }
-        return Checked::Accepted(n);
+        return Ok(Some(n));
     }
     clear32(derived_buckets);
     clear32(derived_entries);
@@ -152,7 +108,7 @@ pub fn chains_step(
 
 // 22, then 23: parents and children, where nothing was refused so far. The working tables are zero after it.
 pub fn indices_step(
-    v: Checked,
+    v: Result<Option<usize>, Refusal>,
     bones: &[u32],
     parents: &[u16],
     p: usize,
@@ -161,15 +117,15 @@ pub fn indices_step(
     derived_parents: &mut [u16],
     derived_children: &mut [u16],
     pending: &mut [u32],
-) -> Checked
-    ensures answer { checked_of result ≡ behind (checked_of v) (λ n.
+) -> Result<Option<usize>, Refusal>
+    ensures answer { outcome result ≡ behind (outcome v) (λ n.
         indices_stage n bones.now p parents.now c children.now
         (length derived_parents.old) (length derived_children.old) (length pending.old)) }
     ensures work { (derived_parents.new ≡ cleared (length derived_parents.old))
         × (derived_children.new ≡ cleared (length derived_children.old))
         × (pending.new ≡ cleared (length pending.old)) }
 {
-    if let Checked::Accepted(n) = v {
+    if let Ok(Some(n)) = v {
         if let Agreement::Refused(y) = indices_stage(
             bones,
             n,
@@ -181,9 +137,9 @@ pub fn indices_step(
             derived_children,
             pending,
         ) {
-            return Checked::Refused(y);
+            return Err(y);
         }
-        return Checked::Accepted(n);
+        return Ok(Some(n));
     }
     clear16(derived_parents);
     clear16(derived_children);
@@ -193,7 +149,7 @@ pub fn indices_step(
 
 // 24, then 25: the matrices, where nothing was refused so far. The working tables are zero after it.
 pub fn matrices_step(
-    v: Checked,
+    v: Result<Option<usize>, Refusal>,
     bones: &[u32],
     inverse: &[u32],
     i: usize,
@@ -201,14 +157,14 @@ pub fn matrices_step(
     l: usize,
     derived_inverse: &mut [u32],
     derived_local: &mut [u32],
-) -> Checked
-    ensures answer { checked_of result ≡ behind (checked_of v) (λ n.
+) -> Result<Option<usize>, Refusal>
+    ensures answer { outcome result ≡ behind (outcome v) (λ n.
         matrices_stage n bones.now i inverse.now l local.now
         (length derived_inverse.old) (length derived_local.old)) }
     ensures work { (derived_inverse.new ≡ cleared (length derived_inverse.old))
         × (derived_local.new ≡ cleared (length derived_local.old)) }
 {
-    if let Checked::Accepted(n) = v {
+    if let Ok(Some(n)) = v {
         if let Agreement::Refused(z) = matrices_stage(
             bones,
             n,
@@ -219,9 +175,9 @@ pub fn matrices_step(
             derived_inverse,
             derived_local,
         ) {
-            return Checked::Refused(z);
+            return Err(z);
         }
-        return Checked::Accepted(n);
+        return Ok(Some(n));
     }
     clear32(derived_inverse);
     clear32(derived_local);
@@ -230,7 +186,7 @@ pub fn matrices_step(
 
 // The answer, with the reading's tables cleared unless it is an acceptance.
 pub fn settle(
-    v: Checked,
+    v: Result<Option<usize>, Refusal>,
     bones: &mut [u32],
     buckets: &mut [u32],
     entries: &mut [u32],
@@ -239,14 +195,14 @@ pub fn settle(
     parents: &mut [u16],
     children: &mut [u16],
     pool: &mut [u64],
-) -> Checked
+) -> Result<Option<usize>, Refusal>
     ensures answer { result ≡ v }
     ensures tables { lent bones.new buckets.new entries.new inverse.new
         local.new parents.new children.new pool.new
         ≡ kept_by v (lent bones.old buckets.old entries.old inverse.old
         local.old parents.old children.old pool.old) }
 {
-    if let Checked::Accepted(_) = v {
+    if let Ok(Some(_)) = v {
         return v;
     }
     clear_all(

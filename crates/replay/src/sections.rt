@@ -1,7 +1,8 @@
 // Reading a skeleton and looking up a tag replayed (docs/FORMAT.md, "Reading and writing a skeleton", "Lookup and check").
 use crate::buffers;
+use format::Refusal;
 use lookup::Looked;
-use read::SkeletonRead;
+use read::Skeleton;
 
 // the parts
 const OTHERS: u16 = 3;
@@ -31,10 +32,10 @@ const POOL: u16 = 14;
 
 // ---- the answer
 
-fn answer_agrees(r: SkeletonRead, want: &[u8], answer: u32) -> bool {
+fn answer_agrees(r: Result<Option<Skeleton>, Refusal>, want: &[u8], answer: u32) -> bool {
     let fields = rig_answers::read_fields(r);
     let same = replay_sample::same_sizes(&fields, replay_sample::part(want, FIELDS));
-    buffers::all(rig_answers::read_status(r) == answer, same, true, true)
+    buffers::all(rig_answers::status(r) == answer, same, true, true)
 }
 
 // ---- the tables: they hold the rows of their parts; `want` is the case, or no bytes where a table is short

@@ -60,6 +60,6 @@ pub extern "C" fn rig_check<'a>(
         derived_children,
         pending,
     );
-    *count = rig_answers::checked_count(r);
-    rig_answers::checked_status(r)
+    *count = rig_answers::given(r);
+    rig_answers::status(r)
 }

@@ -40,6 +40,6 @@ pub extern "C" fn rig_search<'a>(
     let r = search::search(
         sys, gfx, root, key, bones, buckets, entries, inverse, local, parents, children, pool,
     );
-    *position = rig_answers::searched_position(r);
-    rig_answers::searched_status(r)
+    *position = rig_answers::given(r);
+    rig_answers::status(r)
 }

@@ -42,7 +42,7 @@ pub extern "C" fn rig_read<'a>(
         sys, gfx, root, bones, buckets, entries, inverse, local, parents, children, pool,
     );
     *fields = rig_answers::read_fields(r);
-    rig_answers::read_status(r)
+    rig_answers::status(r)
 }
 
 // The section of the first n bones of a table, written at the front of `out` as `write::write` says, which also has the order of the

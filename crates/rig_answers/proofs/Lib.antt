@@ -1,3 +1,3 @@
-pub mod Status
+pub mod Telling
 pub mod Statuses
 pub mod Told

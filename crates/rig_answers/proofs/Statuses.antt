@@ -8,7 +8,7 @@ use Rattle.format.specs.CallRefusals.{RefusesOnly}
 use Rattle.format.proofs.CallRefusals.{only-done, only-refused}
 use Rattle.rig_answers.specs.Answer.{read_status}
 use Rattle.rig_answers.specs.Status.{sure, Tells, Statuses}
-use Rattle.rig_answers.proofs.Status.{tells}
+use Rattle.rig_answers.proofs.Telling.{tells}
 
 sure-only : {A : Type 0} (ns : List ℕ) (w : Res A) → RefusesOnly ns w → RefusesOnly ns (sure w)
 sure-only ns (done a) h = only-done (Some a)

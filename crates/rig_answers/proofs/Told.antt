@@ -1,7 +1,7 @@
 -- What is told of a section is what the calls answer. Assumes nothing.
 use Prim.Native.Nat.{ℕ}
-use mathlib.Core.Path.{◌≡◌, ap, ◌∙◌}
-use Rattle.std.specs.Prelude.{Option, Some}
+use mathlib.Core.Path.{◌≡◌, refl, ap, ◌∙◌}
+use Rattle.std.specs.Prelude.{Option, None, Some, Result, Ok, Err}
 use mathlib.Core.List.{List, [], ◌∷◌}
 use Rattle.format.specs.Result.{Res, done, status}
 use Rattle.format.specs.Layout.{Bytes}
@@ -11,24 +11,22 @@ use Rattle.format.specs.Read.{Step, read_skeleton}
 use Rattle.format.specs.Search.{search}
 use Rattle.read.specs.Lent.{Lent, read_room}
 use Rattle.read.specs.Parts.{meant_part}
+use Rattle.format.specs.Tables.{part_length}
 use Rattle.read.specs.Reads.{meant_skeleton, meant_read, read_leaves, Reads}
-use Rattle.read.specs.declared.Part.{Part}
 use Rattle.read.specs.declared.Skeleton.{Skeleton}
-use Rattle.read.specs.declared.SkeletonRead.{SkeletonRead}
 use Rattle.write.specs.Outcome.{written_of, Writes}
 use Rattle.tables.specs.Working.{Working}
 use Rattle.write.specs.declared.Written.{Written}
-use Rattle.check_steps.specs.Steps.{checked_of}
-use Rattle.check_steps.specs.declared.Checked.{Checked}
+use Rattle.format.specs.Refusal.{outcome}
+use Rattle.format.specs.declared.Refusal.{Refusal}
 use Rattle.verify.specs.Checks.{leaves_by, Checks}
 use Rattle.rig_answers.specs.Answer.{counted, read_status, given, number_if, present}
 use Rattle.rig_answers.specs.Told.{skeleton_fields, ReadTold, WriteTold, Told, SearchTold, CheckTold}
-use Rattle.format.specs.Tables.{part_length}
 
 -- ---- reading
 
 -- the two numbers of a part
-pub record PartTold (p : Part) (b n : ℕ) : Type 0 where
+pub record PartTold (p : Option ℕ) (b n : ℕ) : Type 0 where
   pub told : b ≡ number_if (present (meant_part p))
   pub size : n ≡ part_length (meant_part p)
 
@@ -44,11 +42,17 @@ fields_told s p q i l a c =
     p.told j ∷ p.size j ∷ q.told j ∷ q.size j ∷ i.told j ∷ i.size j ∷ l.told j ∷ l.size j ∷
     a.told j ∷ a.size j ∷ c.told j ∷ c.size j ∷ []
 
+-- a skeleton read has the status of what it stands for
+status-read : (r : Result (Option Skeleton) Refusal) → read_status (outcome r) ≡ read_status (meant_read r)
+status-read (Ok None) = refl
+status-read (Ok (Some s)) = refl
+status-read (Err x) = refl
+
 pub read_told :
-    {g : Step (Option SkeletonRow)} {r : SkeletonRead} {n : ℕ} {f : List ℕ} {t₀ t : Lent} → Reads g r t₀ t →
-    f ≡ skeleton_fields (meant_read r) → n ≡ read_status (meant_read r) → ReadTold g n f t₀ t
-read_told k f n =
-    record { answer = n ∙ ap read_status k.answer; fields = f ∙ ap skeleton_fields k.answer; tables = k.tables }
+    {g : Step (Option SkeletonRow)} {r : Result (Option Skeleton) Refusal} {n : ℕ} {f : List ℕ} {t₀ t : Lent} → Reads g r t₀ t →
+    f ≡ skeleton_fields (meant_read r) → n ≡ read_status (outcome r) → ReadTold g n f t₀ t
+read_told {r = r} k f n =
+    record { answer = n ∙ status-read r ∙ ap read_status k.answer; fields = f ∙ ap skeleton_fields k.answer; tables = k.tables }
 
 -- ---- writing
 
@@ -70,8 +74,8 @@ pub search-told :
 search-told sec root key t₀ e l n r = record { told = told_by e n r; tables = l }
 
 pub check-told :
-    {sec : Section} {root r n : ℕ} {v : Checked} {t₀ t : Lent} {x₀ x : Working} → Checks sec root v t₀ t x₀ x →
-    n ≡ given (checked_of v) → r ≡ read_status (checked_of v) → CheckTold sec root r n t₀ t x₀ x
+    {sec : Section} {root r n : ℕ} {v : Result (Option ℕ) Refusal} {t₀ t : Lent} {x₀ x : Working} → Checks sec root v t₀ t x₀ x →
+    n ≡ given (outcome v) → r ≡ read_status (outcome v) → CheckTold sec root r n t₀ t x₀ x
 check-told {sec} {root} {t₀ = t₀} k n r =
     record {
       told = told_by k.answer n r;

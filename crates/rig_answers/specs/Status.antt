@@ -1,5 +1,5 @@
 -- What a status tells C and Rust of an outcome (docs/FORMAT.md, "Who can cause a refusal": "a status is 0, 100 for none, or the number").
--- `proofs/Status.antt` proves it. Definitions only.
+-- `proofs/Telling.antt` proves it. Definitions only.
 use Rattle.std.specs.Prelude.{◌≡◌, ◌↔◌, ℕ, not, List, T}
 use Rattle.std.specs.Prelude.{Option, None, Some}
 use Rattle.format.specs.Result.{Res, refused, done, status}

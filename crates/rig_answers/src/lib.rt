@@ -4,55 +4,66 @@
 
 ghost use Rattle.std.specs.Prelude.{◌≡◌};
 ghost use Rattle.std.specs.Prelude.{Some};
+ghost use Rattle.format.specs.Refusal.{outcome};
 ghost use Rattle.format.specs.Result.{done, status};
+ghost use Rattle.format.specs.Tables.{part_length};
 ghost use Rattle.read.specs.Parts.{meant_part};
 ghost use Rattle.read.specs.Reads.{meant_skeleton, meant_read};
 ghost use Rattle.write.specs.Outcome.{written_of};
 ghost use Rattle.lookup.specs.Looked.{looked_of};
-ghost use Rattle.search.specs.Searched.{searched_of};
-ghost use Rattle.check_steps.specs.Steps.{checked_of};
 ghost use Rattle.rig_answers.specs.Answer.{counted, read_status, given, number_if, present};
 ghost use Rattle.rig_answers.specs.Told.{skeleton_fields};
-ghost use Rattle.format.specs.Tables.{part_length};
 
-use check_steps::Checked;
+use format::Refusal;
 use lookup::Looked;
-use read::{Part, Skeleton, SkeletonRead};
-use search::Searched;
+use read::Skeleton;
 use write::Written;
 
 // The status of "none".
 pub const NOTHING: u32 = 100;
 
-// ---- reading
+// ---- reading, lookup, search, check
 
-fn part_stands(p: Part) -> usize
-    ensures { result ≡ number_if (present (meant_part p)) }
+// The status of a call that gives something or none.
+pub fn status<T: Copy>(r: Result<Option<T>, Refusal>) -> u32
+    ensures { result ≡ read_status (outcome r) }
 {
-    match p {
-        Part::Absent => 0,
-        Part::Of(_) => 1,
+    match r {
+        Ok(Some(_)) => 0,
+        Ok(None) => NOTHING,
+        Err(e) => u32::from(e),
     }
 }
 
-fn part_length(p: Part) -> usize
-    ensures { result ≡ part_length (meant_part p) }
+// The position that a search gives, or the number of bones of a check; 0 for none and after a refusal.
+pub fn given(r: Result<Option<usize>, Refusal>) -> usize
+    ensures { result ≡ given (outcome r) }
 {
-    match p {
-        Part::Absent => 0,
-        Part::Of(n) => n,
+    match r {
+        Ok(Some(n)) => n,
+        _ => 0,
     }
+}
+
+// ---- the fields of a skeleton
+
+// 1 where a part stands, else 0.
+fn stands(part: Option<usize>) -> usize
+    ensures { result ≡ number_if (present (meant_part part)) }
+{
+    usize::from(part.is_some())
+}
+
+// How long a part is, 0 where it is absent.
+fn length(part: Option<usize>) -> usize
+    ensures { result ≡ part_length (meant_part part) }
+{
+    part.unwrap_or(0)
 }
 
 fn skeleton_fields(s: Skeleton) -> [usize; 20]
     ensures { result ≡ skeleton_fields (done (Some (meant_skeleton s))) }
 {
-    let buckets = s.buckets;
-    let bones = s.bones;
-    let inverse = s.inverse;
-    let local = s.local;
-    let parents = s.parents;
-    let children = s.children;
     [
         s.kind as usize,
         s.free.x as usize,
@@ -62,40 +73,29 @@ fn skeleton_fields(s: Skeleton) -> [usize; 20]
         s.bucket_count as usize,
         s.bone_count as usize,
         s.child_count as usize,
-        part_stands(buckets),
-        part_length(buckets),
-        part_stands(bones),
-        part_length(bones),
-        part_stands(inverse),
-        part_length(inverse),
-        part_stands(local),
-        part_length(local),
-        part_stands(parents),
-        part_length(parents),
-        part_stands(children),
-        part_length(children),
+        stands(s.buckets),
+        length(s.buckets),
+        stands(s.bones),
+        length(s.bones),
+        stands(s.inverse),
+        length(s.inverse),
+        stands(s.local),
+        length(s.local),
+        stands(s.parents),
+        length(s.parents),
+        stands(s.children),
+        length(s.children),
     ]
 }
 
 // The kind word, the four free words, the stored counts of buckets, bones and children, and of buckets, bones, inverse, local, parents
 // and children whether each stands and how long it is; all 0 unless a skeleton was read.
-pub fn read_fields(r: SkeletonRead) -> [usize; 20]
+pub fn read_fields(r: Result<Option<Skeleton>, Refusal>) -> [usize; 20]
     ensures { result ≡ skeleton_fields (meant_read r) }
 {
     match r {
-        SkeletonRead::Nothing => [0; 20],
-        SkeletonRead::Read(s) => skeleton_fields(s),
-        SkeletonRead::Refused(_) => [0; 20],
-    }
-}
-
-pub fn read_status(r: SkeletonRead) -> u32
-    ensures { result ≡ read_status (meant_read r) }
-{
-    match r {
-        SkeletonRead::Nothing => NOTHING,
-        SkeletonRead::Read(_) => 0,
-        SkeletonRead::Refused(e) => u32::from(e),
+        Ok(Some(s)) => skeleton_fields(s),
+        _ => [0; 20],
     }
 }
 
@@ -140,51 +140,5 @@ pub fn looked_position(r: Looked) -> usize
         Looked::Found(p) => p as usize,
         Looked::Nothing => 0,
         Looked::Refused(_) => 0,
-    }
-}
-
-// ---- the name search
-
-pub fn searched_status(r: Searched) -> u32
-    ensures { result ≡ read_status (searched_of r) }
-{
-    match r {
-        Searched::Found(_) => 0,
-        Searched::Nothing => NOTHING,
-        Searched::Refused(e) => u32::from(e),
-    }
-}
-
-// The position found, 0 else.
-pub fn searched_position(r: Searched) -> usize
-    ensures { result ≡ given (searched_of r) }
-{
-    match r {
-        Searched::Found(p) => p,
-        Searched::Nothing => 0,
-        Searched::Refused(_) => 0,
-    }
-}
-
-// ---- the check
-
-pub fn checked_status(r: Checked) -> u32
-    ensures { result ≡ read_status (checked_of r) }
-{
-    match r {
-        Checked::Nothing => NOTHING,
-        Checked::Accepted(_) => 0,
-        Checked::Refused(e) => u32::from(e),
-    }
-}
-
-// The number of bones read, 0 unless the section is accepted.
-pub fn checked_count(r: Checked) -> usize
-    ensures { result ≡ given (checked_of r) }
-{
-    match r {
-        Checked::Nothing => 0,
-        Checked::Accepted(n) => n,
-        Checked::Refused(_) => 0,
     }
 }

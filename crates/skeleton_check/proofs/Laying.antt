@@ -1,4 +1,6 @@
 -- A line laid from its end towards its start: digits, then a word in front of them. Assumes nothing.
+use Rattle.std.specs.Prelude.{Result, Ok, Err, Option, None, Some}
+use Rattle.format.specs.Refusal.{outcome}
 use Prim.Native.Nat.{ℕ, zero, suc, ◌+◌, ◌-◌, ◌/◌, ◌%◌, ◌≤◌, ◌<◌}
 use native.Mathlib.Omega.{arith}
 use mathlib.Core.Path.{◌≡◌, refl, sym, ap, ◌∙◌}
@@ -9,9 +11,6 @@ use lib.Seq.{take-suc, take_all, drop-length}
 use Rattle.format.specs.Refusal.{number}
 use Rattle.format.specs.declared.Refusal.{Refusal}
 use Rattle.format.specs.Program.{digits_onto, report}
-use Rattle.check_steps.specs.Steps.{checked_of}
-use Rattle.check_steps.specs.declared.Checked.{Checked}
-use Rattle.check_steps.specs.declared.Checked.TheVariants.{Nothing, Accepted, Refused}
 
 drop-set : (l : List ℕ) (i v : ℕ) → i < length l → drop i (set l i v) ≡ v ∷ drop (suc i) l
 drop-set [] i v h = absurd (omega arith)
@@ -147,17 +146,17 @@ line-laid line₀ line₁ line word at r n p d w =
 
 -- ---- an answer's line
 
-module _ {v : Checked} {s : List ℕ} where
-  pub line-none : v ≡ Nothing → s ≡ [] → s ≡ report (checked_of v)
-  line-none i e = e ∙ sym (ap (λ (w : Checked). report (checked_of w)) i)
+module _ {v : Result (Option ℕ) Refusal} {s : List ℕ} where
+  pub line-none : v ≡ Ok None → s ≡ [] → s ≡ report (outcome v)
+  line-none i e = e ∙ sym (ap (λ (w : Result (Option ℕ) Refusal). report (outcome w)) i)
 
-  pub line_ok : {n : ℕ} → v ≡ Accepted n → s ≡ (111 ∷ 107 ∷ 32 ∷ []) ++ digits_onto 5 n (10 ∷ []) → s ≡ report (checked_of v)
-  line_ok i e = e ∙ sym (ap (λ (w : Checked). report (checked_of w)) i)
+  pub line_ok : {n : ℕ} → v ≡ Ok (Some n) → s ≡ (111 ∷ 107 ∷ 32 ∷ []) ++ digits_onto 5 n (10 ∷ []) → s ≡ report (outcome v)
+  line_ok i e = e ∙ sym (ap (λ (w : Result (Option ℕ) Refusal). report (outcome w)) i)
 
   pub line_refused :
-      {x : Refusal} {n : ℕ} → v ≡ Refused x → n ≡ number x →
-      s ≡ (114 ∷ 101 ∷ 102 ∷ 117 ∷ 115 ∷ 101 ∷ 100 ∷ 32 ∷ []) ++ digits_onto 5 n (10 ∷ []) → s ≡ report (checked_of v)
+      {x : Refusal} {n : ℕ} → v ≡ Err x → n ≡ number x →
+      s ≡ (114 ∷ 101 ∷ 102 ∷ 117 ∷ 115 ∷ 101 ∷ 100 ∷ 32 ∷ []) ++ digits_onto 5 n (10 ∷ []) → s ≡ report (outcome v)
   line_refused {x} {n} i k e =
       e
       ∙ ap (λ (m : ℕ). (114 ∷ 101 ∷ 102 ∷ 117 ∷ 115 ∷ 101 ∷ 100 ∷ 32 ∷ []) ++ digits_onto 5 m (10 ∷ [])) k
-      ∙ sym (ap (λ (w : Checked). report (checked_of w)) i)
+      ∙ sym (ap (λ (w : Result (Option ℕ) Refusal). report (outcome w)) i)

@@ -1,4 +1,7 @@
 -- What is printed for a section: the line of the check's answer, with the program's tables. Assumes nothing.
+use Rattle.std.specs.Prelude.{Result, Err, Option}
+use Rattle.format.specs.declared.Refusal.{Refusal}
+use Rattle.format.specs.Refusal.{outcome}
 use Prim.Native.Nat.{ℕ, ◌≤◌, ◌<◌}
 use mathlib.Core.Path.{◌≡◌, refl, sym, ap, ◌∙◌}
 use mathlib.Core.List.{List, []}
@@ -12,9 +15,6 @@ use Rattle.blocks.specs.Places.{section}
 use Rattle.read_chains.specs.Lent.{entry_room}
 use Rattle.read.specs.Lent.{Lent, read_room}
 use Rattle.tables.specs.Working.{Working, room_in}
-use Rattle.check_steps.specs.Steps.{checked_of}
-use Rattle.check_steps.specs.declared.Checked.{Checked}
-use Rattle.check_steps.specs.declared.Checked.TheVariants.{Refused}
 use Rattle.verify.specs.Checks.{Checks}
 
 -- ---- the rooms of the program's tables
@@ -67,13 +67,13 @@ derive_room-is x s =
 
 -- ---- the line
 
-pub printed_long : {y : List ℕ} (s : List ℕ) → 65536 < length s → y ≡ report (checked_of (Refused TableTooShort)) → y ≡ printed s
+pub printed_long : {y : List ℕ} (s : List ℕ) → 65536 < length s → y ≡ report (outcome {A = Option ℕ} (Err TableTooShort)) → y ≡ printed s
 unfolding printed
 printed_long s h e = rw (lt-leb (length s) 65536 h) e
 
 pub printed-checked :
-    {y : List ℕ} (s g : List ℕ) {v : Checked} {t₀ t : Lent} {x₀ x : Working} → length s ≤ 65536 → g ≡ [] →
-    Checks (section s g) base v t₀ t x₀ x → Sized t₀ → SizedWork x₀ → y ≡ report (checked_of v) →
+    {y : List ℕ} (s g : List ℕ) {v : Result (Option ℕ) Refusal} {t₀ t : Lent} {x₀ x : Working} → length s ≤ 65536 → g ≡ [] →
+    Checks (section s g) base v t₀ t x₀ x → Sized t₀ → SizedWork x₀ → y ≡ report (outcome v) →
     y ≡ printed s
 unfolding printed
 printed-checked {y} s g {v} {t₀} {t} {x₀} {x} h eg m z w e =

@@ -1,9 +1,9 @@
 // The line that the program prints (docs/FORMAT.md, "Joints and names"), laid from a buffer's end towards its start.
 ghost use Rattle.std.specs.Prelude.{◌≡◌, ◌++◌, ◌∷◌, [], ◌+◌, ◌≤◌, length, drop};
 ghost use Rattle.format.specs.Program.{digits_onto, report};
-ghost use Rattle.check_steps.specs.Steps.{checked_of};
+ghost use Rattle.format.specs.Refusal.{outcome};
 
-use check_steps::Checked;
+use format::Refusal;
 
 // The most digits of a number.
 const DIGITS: usize = 5;
@@ -64,14 +64,14 @@ fn put_line(line: &mut [u8], word: &[u8], n: usize) -> usize
 
 // Puts the line for an answer of the check at the end of a buffer, and gives where it starts: `ok` and the bone count, or `refused` and
 // the number. Root 0 has no line.
-pub(crate) fn put_report(v: Checked, line: &mut [u8]) -> usize
+pub(crate) fn put_report(v: Result<Option<usize>, Refusal>, line: &mut [u8]) -> usize
     requires { 14 ≤ length line.old }
-    ensures line { drop result line.new ≡ report (checked_of v) }
+    ensures line { drop result line.new ≡ report (outcome v) }
     ensures place { result ≤ length line.old }
 {
     match v {
-        Checked::Nothing => line.len(),
-        Checked::Accepted(n) => put_line(line, b"ok ", n),
-        Checked::Refused(x) => put_line(line, b"refused ", u32::from(x) as usize),
+        Ok(None) => line.len(),
+        Ok(Some(n)) => put_line(line, b"ok ", n),
+        Err(x) => put_line(line, b"refused ", u32::from(x) as usize),
     }
 }

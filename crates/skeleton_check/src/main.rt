@@ -8,7 +8,6 @@ ghost use Rattle.std.specs.Prelude.{◌≡◌, ◌≤◌, length, drop};
 ghost use Rattle.format.specs.Program.{printed};
 
 use crate::line::put_report;
-use check_steps::Checked;
 use format::Refusal;
 use std::io;
 
@@ -23,7 +22,7 @@ fn print_check(sys: &[u8], line: &mut [u8]) -> usize
     ensures place { result ≤ length line.old }
 {
     if sys.len() > LONGEST {
-        return put_report(Checked::Refused(Refusal::TableTooShort), line);
+        return put_report(Err(Refusal::TableTooShort), line);
     }
     let gfx = [0u8; 1];
     let mut bones = [0u32; 16800];

@@ -1,5 +1,9 @@
 -- Demand 3 of the calls, proved: the contracts make each answer the format's, `promises` has demand 3 of those, and `read_laws` finds the
 -- bones read in their table. In order: the bones in the table; Exact; Found; Back. Assumes nothing.
+use Rattle.format.specs.Refusal as refusal
+use Rattle.std.specs.Prelude.{Ok}
+use Rattle.std.specs.Prelude.{Result}
+use Rattle.format.specs.declared.Refusal.{Refusal}
 use Prim.Native.Nat.{ℕ, ◌≤◌}
 use native.Mathlib.Omega.{arith}
 use mathlib.Core.Path.{◌≡◌, sym, ap, subst, ◌∙◌}
@@ -38,10 +42,7 @@ use Rattle.format.specs.declared.Words4.{Words4}
 use Rattle.write.specs.declared.Written.TheVariants.{Done}
 use Rattle.lookup.specs.Looked.{looked_of}
 use Rattle.lookup.specs.declared.Looked.{Looked}
-use Rattle.check_steps.specs.Steps.{checked_of}
-use Rattle.check_steps.specs.declared.Checked.{Checked}
-use Rattle.check_steps.specs.declared.Checked.TheVariants.{Accepted}
-use Rattle.check_steps.proofs.Answers.{accepted, skeleton-is, rows-counted}
+use Rattle.check_steps.proofs.Answers.{accepted, skeleton-is}
 use Rattle.verify.specs.Checks.{leaves_by, Checks}
 use Rattle.read_laws.specs.Bytes.{Bytes8, SectionBytes}
 use Rattle.theorems.specs.Typed.{Words32}
@@ -69,11 +70,11 @@ bones_in_lem sec small root s u t₀ t e l =
 -- ---- Exact
 
 exact :
-    (sec : Section) (root : ℕ) (t₀ t : read.Lent) (x₀ x : Working) (r : Checked) → Checks sec root r t₀ t x₀ x →
+    (sec : Section) (root : ℕ) (t₀ t : read.Lent) (x₀ x : Working) (r : Result (Option ℕ) Refusal) → Checks sec root r t₀ t x₀ x →
     Sized sec root (read_room t₀) (room_in x₀) → Accepting r ↔ Sound sec root
 exact sec root t₀ t x₀ x r c l =
     let k = theorems.exact sec root (read_room t₀) (room_in x₀) l in (
-      λ a. k.0 (record { count = a.count; says = sym c.answer ∙ ap checked_of a.is }),
+      λ a. k.0 (record { count = a.count; says = sym c.answer ∙ ap (λ (y : Result (Option ℕ) Refusal). refusal.outcome y) a.is }),
       λ s. let a = k.1 s in record { count = a.count; is = accepted r a.count (c.answer ∙ a.says) },
     )
 
@@ -96,7 +97,7 @@ found_at sec root t₀ t droom n bytes says left h tag small =
     (record { room = read_room t₀; gives = w.2 }) (omega (arith, h, count)) tag small)
 
 found :
-    (sec : Section) (root : ℕ) (t₀ t : read.Lent) (x₀ x : Working) (n : ℕ) → SectionBytes sec → Checks sec root (Accepted n) t₀ t x₀ x →
+    (sec : Section) (root : ℕ) (t₀ t : read.Lent) (x₀ x : Working) (n : ℕ) → SectionBytes sec → Checks sec root (Ok (Some n)) t₀ t x₀ x →
     2 ≤ n → (tag : ℕ) → tag ≤ 65535 → (r : Looked) → looked_of r ≡ lookup sec root tag →
     Right (tags (bones_of n t.bones)) tag (looked_of r)
 found sec root t₀ t x₀ x n bytes c h tag small r looked =
@@ -158,7 +159,7 @@ module _
                 i,
                 same-bones t₀ t h
                     (c.tables
-                    ∙ ap (λ (y : Checked). leaves_by (checked_of y) (read_skeleton sec (read_room t₀) base no_rows) t₀) i),
+                    ∙ ap (λ (y : Result (Option ℕ) Refusal). leaves_by (refusal.outcome y) (read_skeleton sec (read_room t₀) base no_rows) t₀) i),
               );
           reads =
               λ t₀ t r k g.
@@ -167,7 +168,7 @@ module _
               record {
                 skeleton = s.skeleton;
                 is = s.is;
-                count = sym (rows-counted s.skeleton.bones) ∙ ap (λ (y : SkeletonRow). part_length y.bones) s.meant
+                count = ap (λ (y : SkeletonRow). part_length y.bones) s.meant
                     ∙ counts t₀ t h g.tables;
                 same = same-bones t₀ t h g.tables;
                 free_words = ap (λ (y : SkeletonRow). y.free) s.meant ∙ b.free_words;

@@ -1,5 +1,9 @@
 -- Demand 1 of the calls: every answer that meets its call's contract is a result, none, or a refusal of the call's list. Each answer is
--- taken as the format has it (`looked_of`, `checked_of`, …). `proofs/Refusals.antt` proves it. Definitions only.
+-- taken as the format has it (`outcome`, …). `proofs/Refusals.antt` proves it. Definitions only.
+use Rattle.format.specs.Refusal as refusal
+use Rattle.std.specs.Prelude.{Result, Option}
+use Rattle.format.specs.declared.Refusal.{Refusal}
+use Rattle.read.specs.declared.Skeleton.{Skeleton}
 use Rattle.std.specs.Prelude.{◌≡◌, ℕ, List, length}
 use Rattle.format.specs.Section.{Section}
 use Rattle.format.specs.Bone.{Words4}
@@ -23,13 +27,8 @@ use Rattle.derive_matrices.specs.declared.matrices.Transformed.{Transformed}
 use Rattle.read.specs.Lent as read
 use Rattle.read.specs.Lent.{read_room}
 use Rattle.read.specs.Reads.{Reads, meant_read}
-use Rattle.read.specs.declared.SkeletonRead.{SkeletonRead}
-use Rattle.search.specs.Searched.{searched_of}
-use Rattle.search.specs.declared.Searched.{Searched}
 use Rattle.lookup.specs.Looked.{looked_of}
 use Rattle.lookup.specs.declared.Looked.{Looked}
-use Rattle.check_steps.specs.Steps.{checked_of}
-use Rattle.check_steps.specs.declared.Checked.{Checked}
 use Rattle.verify.specs.Checks.{Checks}
 use Rattle.write.specs.Outcome.{outcome, written_of, Writes}
 use Rattle.write.specs.declared.Written.{Written}
@@ -54,14 +53,14 @@ pub record Refusals : Type 0 where
       (lent : Section) (room : DeriveRoom) (n : ℕ) (bones : List ℕ) (free : Words4) (out out' : List ℕ) (r : Written) →
       Writes (outcome lent room (length out) n bones free) r out out' → RefusesOnly writing_refusals (written_of r)
   pub reading :
-      (sec : Section) (root : ℕ) (t₀ t : read.Lent) (r : SkeletonRead) → Reads (read_skeleton sec (read_room t₀) root no_rows) r t₀ t →
+      (sec : Section) (root : ℕ) (t₀ t : read.Lent) (r : Result (Option Skeleton) Refusal) → Reads (read_skeleton sec (read_room t₀) root no_rows) r t₀ t →
       RefusesOnly reading_refusals (meant_read r)
   pub searching :
-      (sec : Section) (room : Room) (root key : ℕ) (r : Searched) → searched_of r ≡ search sec room root key →
-      RefusesOnly reading_refusals (searched_of r)
+      (sec : Section) (room : Room) (root key : ℕ) (r : Result (Option ℕ) Refusal) → refusal.outcome r ≡ search sec room root key →
+      RefusesOnly reading_refusals (refusal.outcome r)
   pub checking :
-      (sec : Section) (root : ℕ) (t₀ t : read.Lent) (x₀ x : Working) (r : Checked) → Checks sec root r t₀ t x₀ x →
-      RefusesOnly check_refusals (checked_of r)
+      (sec : Section) (root : ℕ) (t₀ t : read.Lent) (x₀ x : Working) (r : Result (Option ℕ) Refusal) → Checks sec root r t₀ t x₀ x →
+      RefusesOnly check_refusals (refusal.outcome r)
   pub looking_up :
       (sec : Section) (root tag : ℕ) (r : Looked) → looked_of r ≡ lookup sec root tag → RefusesOnly lookup_refusals (looked_of r)
   pub joints_reading :

@@ -1,6 +1,8 @@
 -- Demand 3 of the calls: each statement is of every answer and every table that meets the contract of its call. `sec` is the system and
 -- the graphics bytes that the call is lent, t₀ and x₀ are the lent tables before it, t and x the same after it.
 -- `proofs/Theorems.antt` proves them from the definitions' demand 3 (`promises`) and the contracts. Definitions only.
+use Rattle.std.specs.Prelude.{Result, Ok, Option, Some}
+use Rattle.format.specs.declared.Refusal.{Refusal}
 use Rattle.std.specs.Prelude.{◌≡◌, ◌↔◌, ℕ, ◌≤◌, List, length}
 use Rattle.format.specs.Section.{Section}
 use Rattle.format.specs.Deriving.{tags}
@@ -18,8 +20,6 @@ use Rattle.read.specs.Lent as read
 use Rattle.read.specs.Lent.{read_room}
 use Rattle.read.specs.Reads.{Reads}
 use Rattle.read.specs.declared.Skeleton.{Skeleton}
-use Rattle.read.specs.declared.SkeletonRead.{SkeletonRead}
-use Rattle.read.specs.declared.SkeletonRead.TheVariants.{Read}
 use Rattle.write.specs.Outcome.{outcome, Writes}
 use Rattle.tables.specs.Working.{Working, room_in}
 use Rattle.format.specs.declared.Words4.{Words4}
@@ -27,8 +27,6 @@ use Rattle.write.specs.declared.Written.TheVariants.{Done}
 use Rattle.lookup.specs.Looked.{looked_of}
 use Rattle.lookup.specs.declared.Looked.{Looked}
 use Rattle.read.specs.Parts.{part_rows}
-use Rattle.check_steps.specs.declared.Checked.{Checked}
-use Rattle.check_steps.specs.declared.Checked.TheVariants.{Accepted}
 use Rattle.verify.specs.Checks.{Checks}
 use Rattle.read_laws.specs.Bytes.{Bytes8, SectionBytes}
 use Rattle.theorems.specs.Typed.{Words32}
@@ -36,9 +34,9 @@ use Rattle.theorems.specs.Typed.{Words32}
 -- ---- the words that the statements use
 
 -- the check's answer is an acceptance
-pub record Accepting (r : Checked) : Type 0 where
+pub record Accepting (r : Result (Option ℕ) Refusal) : Type 0 where
   pub count : ℕ
-  pub is : r ≡ Accepted count
+  pub is : r ≡ Ok (Some count)
 
 -- the tables lent for a reading hold it, whatever the section reads to
 abbrev pub HoldsReading : Section → ℕ → read.Lent → Type 0
@@ -50,9 +48,9 @@ abbrev pub SameBones : ℕ → Section → List ℕ → Section → List ℕ →
 SameBones n lent a sec b = named sec (bones_of n b) ≡ named lent (bones_of n a)
 
 -- a reading's answer and its table of bones: n bones, those of table a, and the free words
-pub record BonesBack (lent : Section) (a : List ℕ) (n : ℕ) (free : Words4) (sec : Section) (r : SkeletonRead) (b : List ℕ) : Type 0 where
+pub record BonesBack (lent : Section) (a : List ℕ) (n : ℕ) (free : Words4) (sec : Section) (r : Result (Option Skeleton) Refusal) (b : List ℕ) : Type 0 where
   pub skeleton : Skeleton
-  pub is : r ≡ Read skeleton
+  pub is : r ≡ Ok (Some skeleton)
   pub count : part_rows skeleton.bones ≡ n
   pub same : SameBones n lent a sec b
   pub free_words : meant_words4 skeleton.free ≡ meant_words4 free
@@ -60,10 +58,10 @@ pub record BonesBack (lent : Section) (a : List ℕ) (n : ℕ) (free : Words4) (
 -- The section written, with any graphics bytes beside it: checked and read with tables that hold it.
 pub record WrittenBack (lent : Section) (a : List ℕ) (n : ℕ) (free : Words4) (sec : Section) : Type 0 where
   pub accepted :
-      (t₀ t : read.Lent) (x₀ x : Working) (r : Checked) → Sized sec base (read_room t₀) (room_in x₀) → Checks sec base r t₀ t x₀ x →
-      (r ≡ Accepted n) × SameBones n lent a sec t.bones
+      (t₀ t : read.Lent) (x₀ x : Working) (r : Result (Option ℕ) Refusal) → Sized sec base (read_room t₀) (room_in x₀) → Checks sec base r t₀ t x₀ x →
+      (r ≡ Ok (Some n)) × SameBones n lent a sec t.bones
   pub reads :
-      (t₀ t : read.Lent) (r : SkeletonRead) → HoldsReading sec base t₀ →
+      (t₀ t : read.Lent) (r : Result (Option Skeleton) Refusal) → HoldsReading sec base t₀ →
       Reads (read_skeleton sec (read_room t₀) base no_rows) r t₀ t → BonesBack lent a n free sec r t.bones
 
 -- ---- the statements
@@ -73,12 +71,12 @@ pub record Theorems : Type 0 where
   -- lent the tables that [the format] sizes, accepts exactly when the section reads and its chains, parents, children and matrices equal
   -- those that [it] derives from the bones read."
   pub exact :
-      (sec : Section) (root : ℕ) (t₀ t : read.Lent) (x₀ x : Working) (r : Checked) → Checks sec root r t₀ t x₀ x →
+      (sec : Section) (root : ℕ) (t₀ t : read.Lent) (x₀ x : Working) (r : Result (Option ℕ) Refusal) → Checks sec root r t₀ t x₀ x →
       Sized sec root (read_room t₀) (room_in x₀) → Accepting r ↔ Sound sec root
   -- Found. "In every section so accepted with two or more bones read, and for every tag from 0 to 65,535, the lookup from the same root
   -- gives the greatest position bearing that tag, or none exactly when no bone bears it." The bones read are those in their table.
   pub found :
-      (sec : Section) (root : ℕ) (t₀ t : read.Lent) (x₀ x : Working) (n : ℕ) → SectionBytes sec → Checks sec root (Accepted n) t₀ t x₀ x →
+      (sec : Section) (root : ℕ) (t₀ t : read.Lent) (x₀ x : Working) (n : ℕ) → SectionBytes sec → Checks sec root (Ok (Some n)) t₀ t x₀ x →
       2 ≤ n → (tag : ℕ) → tag ≤ 65535 → (r : Looked) → looked_of r ≡ lookup sec root tag →
       Right (tags (bones_of n t.bones)) tag (looked_of r)
   -- Back. "Whatever bones, names and free words our writer takes, and whatever the graphics section holds, the section it writes is

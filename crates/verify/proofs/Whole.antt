@@ -1,9 +1,12 @@
 -- The check as its stages: reading's answer, the room, chains, indices and matrices give the format's answer, and the tables hold
 -- what it says. Assumes nothing.
+use Rattle.std.specs.Prelude.{Result}
+use Rattle.format.specs.declared.Refusal.{Refusal}
+use Rattle.format.specs.Refusal.{outcome}
 use Prim.Native.Nat.{ℕ, ◌*◌, ◌≤◌}
 use mathlib.Core.Path.{◌≡◌, refl, sym, ap, subst, ◌∙◌}
 use mathlib.Core.Bool.{Bool, true, false}
-use Rattle.std.specs.Prelude.{Option, None, Some}
+use Rattle.std.specs.Prelude.{Option, None, Some, Ok, Err}
 use lib.ListN.{length}
 use Rattle.format.specs.Result.{Res, refused, done, ◌>>=◌, need}
 use Rattle.format.specs.Section.{Section}
@@ -22,16 +25,12 @@ use Rattle.read_laws.proofs.Held.{read-few, read_rows_lem, read_held}
 use Rattle.read.specs.Lent.{Lent, read_room, cleared_all}
 use Rattle.read.specs.Reads.{meant_skeleton, meant_read, answer_of, read_leaves, Reads}
 use Rattle.read.specs.declared.Skeleton.{Skeleton}
-use Rattle.read.specs.declared.SkeletonRead.{SkeletonRead}
-use Rattle.read.specs.declared.SkeletonRead.TheVariants as R
 use Rattle.read.proofs.Whole.{Sizes}
 use Rattle.tables.specs.Working.{Working, room_in, Zeroed}
-use Rattle.check_steps.specs.Steps.{checked_of, counts_of, begun, behind, kept_by}
+use Rattle.check_steps.specs.Steps.{counts_of, begun, behind, kept_by}
 use Rattle.read.specs.Parts.{part_rows}
 use Rattle.check_steps.specs.declared.Counts.{Counts}
-use Rattle.check_steps.specs.declared.Checked.{Checked}
-use Rattle.check_steps.specs.declared.Checked.TheVariants.{Nothing, Accepted, Refused}
-use Rattle.check_steps.proofs.Answers.{skeleton-is, rows-counted}
+use Rattle.check_steps.proofs.Answers.{skeleton-is}
 use Rattle.verify.specs.Checks.{leaves_by, Checks}
 
 -- ---- the verdict as tests one behind another
@@ -39,7 +38,6 @@ use Rattle.verify.specs.Checks.{leaves_by, Checks}
 three-behind :
     (n : ℕ) (f g h : ℕ → Res (Unit {0})) (a b c : Res (Unit {0})) → f n ≡ a → g n ≡ b → h n ≡ c →
     ((a >>= λ u. b >>= λ u. c >>= λ u. done n) >>= λ m. done (Some m)) ≡ behind (behind (behind (done (Some n)) f) g) h
-unfolding behind
 three-behind n f g h (refused x) b c ea eb ec = rw ea refl
 three-behind n f g h (done u) (refused x) c ea eb ec = rw (ea, eb) refl
 three-behind n f g h (done u) (done v) (refused x) ea eb ec = rw (ea, eb, ec) refl
@@ -51,7 +49,6 @@ with_room :
     (d ≡ true → f n ≡ a) → (d ≡ true → g n ≡ b) → (d ≡ true → h n ≡ c) →
     ((need 1 d >>= λ u. a >>= λ u. b >>= λ u. c >>= λ u. done n) >>= λ m. done (Some m))
     ≡ behind (behind (behind (need 1 d >>= λ u. done (Some n)) f) g) h
-unfolding behind
 with_room n false f g h a b c ea eb ec = refl
 with_room n true f g h a b c ea eb ec = three-behind n f g h a b c (ea refl) (eb refl) (ec refl)
 
@@ -102,35 +99,26 @@ module _ (sec : Section) (bytes : SectionBytes sec) (root : ℕ) (t₀ t₁ : Le
       (y : Skeleton) (u : Tables) → read_skeleton sec (read_room t₀) root no_rows ≡ done (Some (meant_skeleton y), u) →
       t₁ ≡ read_leaves (done (Some (meant_skeleton y), u)) t₀ →
       check sec (read_room t₀) (room_in x) root
-      ≡ staged (counts_of (R.Read y)) t₁ x (need 1 (derives (room_in x) (part_rows y.bones)) >>= λ n. done (Some (part_rows y.bones)))
+      ≡ staged (counts_of (Ok (Some y))) t₁ x (need 1 (derives (room_in x) (part_rows y.bones)) >>= λ n. done (Some (part_rows y.bones)))
   unfolding check read check_from
   read_staged y u e l =
       let s = meant_skeleton y in
       let few = read-few sec bytes (read_room t₀) root s u e in
       let rows = read_rows_lem sec bytes (read_room t₀) root s u e (length t₀.bones) (ap (λ (t : Lent). t.bones) l) in
       let held = read_held sec bytes (read_room t₀) root s u e t₀ t₁ (cleared (length t₀.pool)) l in
-      let counts : read_in (part_length s.bones) t₁.bones (part_length s.buckets) t₁.buckets t₁.entries (part_length s.inverse)
-      t₁.inverse (part_length s.local) t₁.local (part_length s.parents) t₁.parents (part_length s.children) t₁.children
-      ≡ read_in (part_rows y.bones) t₁.bones (part_rows y.buckets) t₁.buckets t₁.entries (part_rows y.inverse)
-      t₁.inverse (part_rows y.local) t₁.local (part_rows y.parents) t₁.parents (part_rows y.children) t₁.children =
-      λ j.
-      read_in (rows-counted y.bones j) t₁.bones (rows-counted y.buckets j) t₁.buckets t₁.entries
-      (rows-counted y.inverse j) t₁.inverse (rows-counted y.local j) t₁.local (rows-counted y.parents j)
-      t₁.parents (rows-counted y.children j) t₁.children in
       rw e
-      (ap (λ (z : Read). verdict (room_in x) z >>= λ m. done (Some m)) (held ∙ counts)
-      ∙ verdict-behind (counts_of (R.Read y)) t₁ x (part_rows y.bones)
-      (subst (λ (n : ℕ). n ≤ 65535) (rows-counted y.bones) few)
-      (subst (λ (n : ℕ). bone_width * n ≤ length t₁.bones) (rows-counted y.bones) rows))
+      (ap (λ (z : Read). verdict (room_in x) z >>= λ m. done (Some m)) held
+      ∙ verdict-behind (counts_of (Ok (Some y))) t₁ x (part_rows y.bones)
+      few rows)
 
-  module _ {r : SkeletonRead} (m : Reads (read_skeleton sec (read_room t₀) root no_rows) r t₀ t₁) where
-    abbrev Staged : SkeletonRead → Type 0
+  module _ {r : Result (Option Skeleton) Refusal} (m : Reads (read_skeleton sec (read_room t₀) root no_rows) r t₀ t₁) where
+    abbrev Staged : Result (Option Skeleton) Refusal → Type 0
     Staged r =
         check sec (read_room t₀) (room_in x) root
         ≡ staged (counts_of r) t₁ x (begun (meant_read r) (counts_of r).bones (derives (room_in x) (counts_of r).bones))
 
     check_staged : Staged r
-    unfolding check read check_from behind
+    unfolding check read check_from
     check_staged = go (read_skeleton sec (read_room t₀) root no_rows) refl m.answer m.tables
       where
         go :
@@ -150,28 +138,27 @@ same_clear : {a b : Lent} → Sizes a b → cleared_all a ≡ cleared_all b
 same_clear s = simp (s.bones, s.buckets, s.entries, s.inverse, s.local, s.parents, s.children, s.pool)
 
 kept-left :
-    (v : Checked) (g : Step (Option SkeletonRow)) (t₀ t₁ : Lent) → Sizes t₁ t₀ → t₁ ≡ read_leaves g t₀ →
-    kept_by v t₁ ≡ leaves_by (checked_of v) g t₀
-unfolding kept_by
-kept-left Nothing g t₀ t₁ s l = same_clear s
-kept-left (Accepted n) g t₀ t₁ s l = l
-kept-left (Refused y) g t₀ t₁ s l = same_clear s
+    (v : Result (Option ℕ) Refusal) (g : Step (Option SkeletonRow)) (t₀ t₁ : Lent) → Sizes t₁ t₀ → t₁ ≡ read_leaves g t₀ →
+    kept_by v t₁ ≡ leaves_by (outcome v) g t₀
+kept-left (Ok None) g t₀ t₁ s l = same_clear s
+kept-left (Ok (Some n)) g t₀ t₁ s l = l
+kept-left (Err y) g t₀ t₁ s l = same_clear s
 
 -- ---- the whole call
 
 module _
-    (sec : Section) (bytes : SectionBytes sec) (root : ℕ) (t₀ t₁ t : Lent) (x₀ x : Working) {r : SkeletonRead}
+    (sec : Section) (bytes : SectionBytes sec) (root : ℕ) (t₀ t₁ t : Lent) (x₀ x : Working) {r : Result (Option Skeleton) Refusal}
     (m : Reads (read_skeleton sec (read_room t₀) root no_rows) r t₀ t₁) (s : Sizes t₁ t₀) {k : Counts} (ek : k ≡ counts_of r)
-    (b c i v y : Checked)
+    (b c i v y : Result (Option ℕ) Refusal)
   where
     pub check-whole :
-        checked_of b ≡ begun (meant_read r) k.bones (derives (room_in x₀) k.bones) →
-        checked_of c ≡ behind (checked_of b) (chains_test k t₁ x₀) →
-        checked_of i ≡ behind (checked_of c) (indices_test k t₁ x₀) →
-        checked_of v ≡ behind (checked_of i) (matrices_test k t₁ x₀) →
+        outcome b ≡ begun (meant_read r) k.bones (derives (room_in x₀) k.bones) →
+        outcome c ≡ behind (outcome b) (chains_test k t₁ x₀) →
+        outcome i ≡ behind (outcome c) (indices_test k t₁ x₀) →
+        outcome v ≡ behind (outcome i) (matrices_test k t₁ x₀) →
         y ≡ v → t ≡ kept_by v t₁ → Zeroed x₀ x → Checks sec root y t₀ t x₀ x
     check-whole eb ec ei ev ey et w =
-        let a : checked_of v ≡ check sec (read_room t₀) (room_in x₀) root =
+        let a : outcome v ≡ check sec (read_room t₀) (room_in x₀) root =
         ev
         ∙ ap (λ (z : Res (Option ℕ)). behind z (matrices_test k t₁ x₀))
         (ei
@@ -180,8 +167,8 @@ module _
         ∙ ap (λ (z : Counts). staged z t₁ x₀ (begun (meant_read r) z.bones (derives (room_in x₀) z.bones))) ek
         ∙ sym (check_staged sec bytes root t₀ t₁ x₀ m) in
         record {
-          answer = ap checked_of ey ∙ a;
+          answer = ap outcome ey ∙ a;
           tables = et ∙ kept-left v (read_skeleton sec (read_room t₀) root no_rows) t₀ t₁ s m.tables
-              ∙ ap (λ (z : Checked). leaves_by (checked_of z) (read_skeleton sec (read_room t₀) root no_rows) t₀) (sym ey);
+              ∙ ap (λ (z : Result (Option ℕ) Refusal). leaves_by (outcome z) (read_skeleton sec (read_room t₀) root no_rows) t₀) (sym ey);
           working = w;
         }

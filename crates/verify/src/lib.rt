@@ -7,7 +7,8 @@ ghost use Rattle.read.specs.Lent.{lent};
 ghost use Rattle.tables.specs.Working.{working};
 ghost use Rattle.verify.specs.Checks.{Checks};
 
-use check_steps::{Checked, begin, chains_step, count_parts, indices_step, matrices_step, settle};
+use check_steps::{begin, chains_step, count_parts, indices_step, matrices_step, settle};
+use format::Refusal;
 
 // Checks the skeleton at a root address of a section, the system and the graphics bytes: reads it, and compares its chains, parents,
 // children and matrices with those derived from the bones read. Gives the number of bones read, and none for root 0. Refusals:
@@ -32,7 +33,7 @@ pub fn check<'a>(
     derived_parents: &mut [u16],
     derived_children: &mut [u16],
     pending: &mut [u32],
-) -> Checked
+) -> Result<Option<usize>, Refusal>
     ensures checked { Checks (section sys.now gfx.now) root result
         (lent bones.old buckets.old entries.old inverse.old
         local.old parents.old children.old pool.old)

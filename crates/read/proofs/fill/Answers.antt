@@ -22,14 +22,14 @@ returns-in_err-buckets_read c =
 pub returns-in_err-inverse_read : goal.returns-in_err-inverse_read
 returns-in_err-inverse_read c =
     let p = err_from_is_err_and c.from_residual-in_err-inverse_read.result c.from_residual-in_err-inverse_read.ensures.1 in
-    rw (p.1, p.2) 
+    rw (p.1, p.2)
     (fill_no_matrices _ _ _ _ _ _ _ _ _ _ _ c.header_at.ensures.answer c.in-At.is c.read_rows.ensures.tables c.in_ok-buckets_read.was
     c.read_matrices.ensures.tables c.in_err-inverse_read.was)
 
 pub returns-in_err-parents_read : goal.returns-in_err-parents_read
 returns-in_err-parents_read c =
     let p = err_from_is_err_and c.from_residual-in_err-parents_read.result c.from_residual-in_err-parents_read.ensures.1 in
-    rw (p.1, p.2) 
+    rw (p.1, p.2)
     (fill_no_indices _ _ _ _ _ _ _ _ _ _ _ c.header_at.ensures.answer c.in-At.is c.read_rows.ensures.tables c.in_ok-buckets_read.was
     c.read_matrices.ensures.tables c.in_ok-inverse_read.was c.read_indices.ensures.tables c.in_err-parents_read.was)
 

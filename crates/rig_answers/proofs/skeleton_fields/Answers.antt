@@ -5,9 +5,9 @@ use Rattle.rig_answers.proofs.skeleton_fields.Goals as goal
 pub returns : goal.returns
 returns c =
     fields_told c.args.s
-    (record { told = c.part_stands.ensures; size = c.part_length.ensures })
-    (record { told = c.part_stands-2.ensures; size = c.part_length-2.ensures })
-    (record { told = c.part_stands-3.ensures; size = c.part_length-3.ensures })
-    (record { told = c.part_stands-4.ensures; size = c.part_length-4.ensures })
-    (record { told = c.part_stands-5.ensures; size = c.part_length-5.ensures })
-    (record { told = c.part_stands-6.ensures; size = c.part_length-6.ensures })
+    (record { told = c.stands.ensures; size = c.length.ensures })
+    (record { told = c.stands-2.ensures; size = c.length-2.ensures })
+    (record { told = c.stands-3.ensures; size = c.length-3.ensures })
+    (record { told = c.stands-4.ensures; size = c.length-4.ensures })
+    (record { told = c.stands-5.ensures; size = c.length-5.ensures })
+    (record { told = c.stands-6.ensures; size = c.length-6.ensures })

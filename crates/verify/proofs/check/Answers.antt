@@ -1,70 +1,9 @@
 -- `verify::check` meets its contract: the calls in their order, each place from the next. Assumes nothing.
-use mathlib.Core.Path.{◌∙◌}
 use Rattle.blocks.specs.Places.{section}
 use Rattle.read.specs.Lent.{lent}
 use Rattle.tables.specs.Working.{working}
 use Rattle.verify.proofs.Whole.{check-whole}
 use Rattle.verify.proofs.check.Goals as goal
-
-pub shape_of-bones : goal.shape_of-bones
-shape_of-bones c =
-    c.settle.auto.bones ∙ c.read-r.auto.bones
-
-pub shape_of-buckets : goal.shape_of-buckets
-shape_of-buckets c =
-    c.settle.auto.buckets ∙ c.read-r.auto.buckets
-
-pub shape_of-entries : goal.shape_of-entries
-shape_of-entries c =
-    c.settle.auto.entries ∙ c.read-r.auto.entries
-
-pub shape_of-inverse : goal.shape_of-inverse
-shape_of-inverse c =
-    c.settle.auto.inverse ∙ c.read-r.auto.inverse
-
-pub shape_of-local : goal.shape_of-local
-shape_of-local c =
-    c.settle.auto.local ∙ c.read-r.auto.local
-
-pub shape_of-parents : goal.shape_of-parents
-shape_of-parents c =
-    c.settle.auto.parents ∙ c.read-r.auto.parents
-
-pub shape_of-children : goal.shape_of-children
-shape_of-children c =
-    c.settle.auto.children ∙ c.read-r.auto.children
-
-pub shape_of-pool : goal.shape_of-pool
-shape_of-pool c =
-    c.settle.auto.pool ∙ c.read-r.auto.pool
-
-pub shape_of-derived_buckets : goal.shape_of-derived_buckets
-shape_of-derived_buckets c =
-    c.chains_step-c.auto.derived_buckets
-
-pub shape_of-derived_entries : goal.shape_of-derived_entries
-shape_of-derived_entries c =
-    c.chains_step-c.auto.derived_entries
-
-pub shape_of-derived_inverse : goal.shape_of-derived_inverse
-shape_of-derived_inverse c =
-    c.matrices_step-m.auto.derived_inverse
-
-pub shape_of-derived_local : goal.shape_of-derived_local
-shape_of-derived_local c =
-    c.matrices_step-m.auto.derived_local
-
-pub shape_of-derived_parents : goal.shape_of-derived_parents
-shape_of-derived_parents c =
-    c.indices_step-i.auto.derived_parents
-
-pub shape_of-derived_children : goal.shape_of-derived_children
-shape_of-derived_children c =
-    c.indices_step-i.auto.derived_children
-
-pub shape_of-pending : goal.shape_of-pending
-shape_of-pending c =
-    c.indices_step-i.auto.pending
 
 pub returns : goal.returns
 returns c =

@@ -11,7 +11,7 @@ returns-in_err-first c =
 pub returns-in_err-second : goal.returns-in_err-second
 returns-in_err-second c =
     let p = err_from_is_err_and c.from_residual-in_err-second.result c.from_residual-in_err-second.ensures.1 in
-    rw (p.1, p.2) 
+    rw (p.1, p.2)
     (record {
       tables =
           pair-no_second c.indices_in.ensures _ _ c.in_ok-first.was c.indices_in.auto.own c.indices_in-2.ensures c.in_err-second.was;

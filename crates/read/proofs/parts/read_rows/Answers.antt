@@ -11,7 +11,7 @@ returns-in_err-chains c =
 pub returns-in_err-block : goal.returns-in_err-block
 returns-in_err-block c =
     let p = err_from_is_err_and c.from_residual-in_err-block.result c.from_residual-in_err-block.ensures.1 in
-    rw (p.1, p.2) 
+    rw (p.1, p.2)
     (record { tables = rows-no_bones _ _ c.chains_in.ensures c.in_ok-chains.was c.bones_in.ensures c.in_err-block.was })
 
 pub returns : goal.returns
