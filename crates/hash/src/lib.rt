@@ -9,15 +9,12 @@ pub fn rage_joaat(s: &[u8]) -> u32
     ensures answer { result ≡ rage_joaat s.now }
 {
     let mut hash: u32 = 0;
-    let mut i = 0;
-    while i < s.len() {
-        hash = std::num::wrapping_add_u32(hash, s[i] as u32);
-        hash = std::num::wrapping_add_u32(hash, hash << 10);
+    for &b in s {
+        hash = hash.wrapping_add(u32::from(b));
+        hash = hash.wrapping_add(hash << 10);
         hash ^= hash >> 6;
-        i += 1;
     }
-    hash = std::num::wrapping_add_u32(hash, hash << 3);
+    hash = hash.wrapping_add(hash << 3);
     hash ^= hash >> 11;
-    hash = std::num::wrapping_add_u32(hash, hash << 15);
-    hash
+    hash.wrapping_add(hash << 15)
 }
