@@ -178,10 +178,7 @@ pub(crate) fn walked(bones: &[u32], n: usize, from: Climber, done: usize, plain:
     while p < NEGATIVE && (p as usize) < n && steps < n {
         let parent = joint_in(bones, n, p as usize, plain);
         rotation = parent.rotation.quat_mul(rotation);
-        position = parent
-            .rotation
-            .quat_rotate(position)
-            .add(parent.translation);
+        position = parent.rotation.quat_rotate(position) + parent.translation;
         p = parent.parent;
         steps += 1;
     }
@@ -266,7 +263,7 @@ fn raised(s: Pose, parent: Pose) -> Pose
     ensures answer { meant_pose result ≡ raised (meant_pose parent) (meant_pose s) }
 {
     let turn = parent.rotation;
-    let position = turn.quat_rotate(s.position).add(parent.position);
+    let position = turn.quat_rotate(s.position) + parent.position;
     let rotation = turn.quat_mul(s.rotation);
     Pose { position, rotation }
 }

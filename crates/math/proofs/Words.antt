@@ -2,13 +2,12 @@
 -- `to_bits` itself writes 7FC00000 hex for `nan`, so `word_of` is `to_bits binary32` everywhere (`word-is`).
 -- Assumes nothing.
 use mathlib.Core.Path.{◌≡◌, refl, sym, ap, ◌∙◌, subst}
-use mathlib.Core.Bool.{Bool, true, false, not}
+use mathlib.Core.Bool.{Bool, not}
 use Prim.Native.Nat.{ℕ, ◌%◌, ◌^◌, ◌≤◌, ◌<◌}
 use lib.Dec.{T, ltb, lt→ltb}
 use borrow.Author.Tests.{le-ltb}
-use lib.Ieee.{Float, nan, inf, fin, binary32, fits, is_nan, nan_bits, ne, to_bits}
+use lib.Ieee.{Float, nan, inf, fin, binary32, fits, is_nan, nan_bits, to_bits}
 use lib.Ieee.Bits.{of_bits-to_bits, to_bits-lt, to_bits-of_bits, nan_bits_is, nan_bits_above}
-use lib.Ieee.Compare.{differs_from_itself}
 use Rattle.math.specs.Word.{float_of, word_of}
 
 pub word-is : (x : Float) → word_of x ≡ to_bits binary32 x
@@ -22,7 +21,7 @@ word-is (fin s m e) = refl
 pub nan_word : (w : ℕ) → nan_bits binary32 w ≡ ltb 0x7F80_0000 (w % 0x8000_0000)
 nan_word w = nan_bits_above binary32 w
 
-only_nan : (x : Float) → T (is_nan x) → x ≡ nan
+pub only_nan : (x : Float) → T (is_nan x) → x ≡ nan
 unfolding is_nan
 only_nan nan t = refl
 only_nan (inf s) t = absurd t
@@ -52,12 +51,3 @@ above_infinity w h = nan_of_word w (subst T (sym (nan_word w)) (lt→ltb _ _ h))
 
 pub up_to_infinity : (w : ℕ) → w % 0x8000_0000 ≤ 0x7F80_0000 → T (not (nan_bits binary32 w))
 up_to_infinity w h = subst (λ (b : Bool). T (not b)) (sym (nan_word w ∙ le-ltb _ _ h)) tt
-
-pub same-is_no_nan : (x : Float) → ne x x ≡ false → T (not (is_nan x))
-unfolding is_nan ne
-same-is_no_nan nan e = subst T e tt
-same-is_no_nan (inf s) e = tt
-same-is_no_nan (fin s m e) h = tt
-
-pub differs_is_nan : (x : Float) → ne x x ≡ true → x ≡ nan
-differs_is_nan x e = differs_from_itself x (subst T (sym e) tt)

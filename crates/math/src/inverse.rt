@@ -6,6 +6,7 @@ use crate::Mat4;
 
 impl Mat4 {
     // The inverse; sixteen +0 exactly where the computed determinant compares equal to 0, which NaN does not.
+    #[tactic(auto, unfolding(crate::specs::Inverse::inverse, crate::specs::Inverse::pick_mat))]
     pub fn inverse(self) -> Mat4
         ensures answer { result ≡ inverse self }
     {

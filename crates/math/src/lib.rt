@@ -44,7 +44,7 @@ pub fn float_of(w: u32) -> f32
     ensures answer { result ≡ float_of w }
 {
     if w % SIGN_BIT > INFINITY_WORD {
-        0.0 / 0.0
+        f32::NAN
     } else {
         f32::from_bits(w)
     }
@@ -54,5 +54,5 @@ pub fn float_of(w: u32) -> f32
 pub fn word_of(x: f32) -> u32
     ensures answer { result ≡ word_of x }
 {
-    if x != x { NAN_WORD } else { f32::to_bits(x) }
+    if x.is_nan() { NAN_WORD } else { x.to_bits() }
 }

@@ -6,6 +6,7 @@ use crate::{Mat4, Vec3, Vec4, word_of};
 
 impl Mat4 {
     // The rotation matrix of the quaternion q, with t in the fourth row.
+    #[tactic(auto, unfolding(crate::specs::Matrix::from_quat_pos))]
     pub fn from_quat_pos(q: Vec4, t: Vec3) -> Mat4
         ensures answer { result ≡ from_quat_pos q t }
     {
@@ -104,12 +105,11 @@ impl Mat4 {
     pub fn words(self) -> [u32; 16]
         ensures answer { result ≡ matrix_words self }
     {
-        let mut out = [0u32; 16];
-        let mut i = 0usize;
-        while i < 16 {
-            out[i] = word_of(self.0[i]);
-            i += 1;
+        // `self.0.map(word_of)` takes two to four times as long: the floats wait in an iterator of their own.
+        let mut words = [0u32; 16];
+        for (i, &float) in self.0.iter().enumerate() {
+            words[i] = word_of(float);
         }
-        out
+        words
     }
 }

@@ -3,12 +3,16 @@ ghost use Rattle.std.specs.Prelude.{◌≡◌};
 ghost use Rattle.math.specs.Vector.{add_vec3, quat_mul, quat_rotate};
 
 use crate::{Vec3, Vec4};
+use std::ops::Add;
 
-impl Vec3 {
+impl Add for Vec3 {
+    type Output = Vec3;
+
+    ghost add_gives = { λ l r sum. sum ≡ add_vec3 l r };
+
     // The sum, component by component.
-    pub fn add(self, rhs: Vec3) -> Vec3
-        ensures answer { result ≡ add_vec3 self rhs }
-    {
+    #[tactic(auto, unfolding(crate::specs::Vector::add_vec3))]
+    fn add(self, rhs: Vec3) -> Vec3 {
         Vec3 {
             x: self.x + rhs.x,
             y: self.y + rhs.y,
@@ -19,6 +23,7 @@ impl Vec3 {
 
 impl Vec4 {
     // The Hamilton product of two quaternions, `self` on the left: it applies the rotation of rhs first.
+    #[tactic(auto, unfolding(crate::specs::Vector::quat_mul))]
     pub fn quat_mul(self, rhs: Vec4) -> Vec4
         ensures answer { result ≡ quat_mul self rhs }
     {
@@ -33,6 +38,7 @@ impl Vec4 {
     }
 
     // v rotated by the quaternion `self`.
+    #[tactic(auto, unfolding(crate::specs::Vector::quat_rotate))]
     pub fn quat_rotate(self, v: Vec3) -> Vec3
         ensures answer { result ≡ quat_rotate self v }
     {

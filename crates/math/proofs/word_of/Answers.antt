@@ -1,16 +1,13 @@
--- `math::word_of` meets its contract: only `nan` differs from itself.
--- Assumes nothing.
-use mathlib.Core.Path.{sym, ap}
+-- Only `nan` is a NaN, and its word is `NAN_WORD`; the word of any other float is its bits.
+use Rattle.std.proofs.Common.{sym, arith}
+use Rattle.std.proofs.lemmas.Grind.{common_steps}
 use Rattle.math.specs.Word.{word_of}
-use Rattle.math.proofs.Words.{differs_is_nan, same-is_no_nan, word-is}
+use Rattle.math.proofs.Words.{only_nan, word-is}
 use Rattle.math.proofs.word_of.Goals as goal
 
-pub float_to_bits-result : goal.float_to_bits-result
-float_to_bits-result c = same-is_no_nan _ c.if-x.false
-
-pub returns-then-x : goal.returns-then-x
+pub returns-then-is_nan : goal.returns-then-is_nan
 unfolding word_of
-returns-then-x c = record { answer = sym (ap word_of (differs_is_nan c.args.x c.if-x.true)) }
+returns-then-is_nan c = grind (arith, common_steps, only_nan)
 
-pub returns-else-x : goal.returns-else-x
-returns-else-x c = record { answer = sym (word-is _) }
+pub returns-else-is_nan : goal.returns-else-is_nan
+returns-else-is_nan c = record { answer = sym (word-is _) }

@@ -29,7 +29,7 @@ loop-p-smaller c = omega (arith, ltb-true)
 pub loop-p-preserved : goal.loop-p-preserved
 loop-p-preserved c =
     walk_turn _ _ _ _ _ _ _ _ _ _ _ c.loop-p-test.true c.if-p-n.true
-    c.if-steps-n.true c.joint_in-parent.ensures.answer c.quat_rotate.ensures.answer c.add-position.ensures.answer
+    c.if-steps-n.true c.joint_in-parent.ensures.answer c.quat_rotate.ensures.answer c.add-position.ensures
     c.quat_mul-rotation.ensures.answer c.loop-p.invariant
 
 pub returns-else-steps-n : goal.returns-else-steps-n
