@@ -6,8 +6,8 @@ use mathlib.Core.List.{List, [], ◌∷◌}
 use Prim.Native.Nat.{ℕ, zero, suc, ◌+◌, ◌-◌, ◌*◌, ◌/◌, ◌≤◌, ◌<◌}
 use native.Mathlib.Omega.{arith}
 use lib.ListN.{length, get_or}
-use lib.Dec.{eqb}
-use borrow.Author.Tests.{eq-eqb, ne_eqb}
+use lib.Dec.{eqb, eqb-zero-suc, eqb-suc-zero}
+use mathlib.Core.Logic.{◌⊎◌}
 use Rattle.format.specs.Chains.{entry_of}
 use Rattle.format.specs.Deriving.{EntryRow, entry_row}
 use Rattle.format.specs.Check.{onto, no_entry, chain_along, chains_along, same_list, same_entry}
@@ -76,44 +76,43 @@ abbrev pub chains_same : List EntryRow → List EntryRow → ℕ → ℕ → ℕ
 chains_same es ds n a b = alike (same_list same_entry) (chain_along es n a) (chain_along ds n b)
 
 module _ (es ds : List EntryRow) where
-  -- the first chain is empty
-  pub same_empty : (n a b : ℕ) → a ≡ 0 → eqb b 0 ≡ chains_same es ds n a b
+  -- a chain that ends is alike to one that ends, and to no other
+  pub same_ended : (n a b : ℕ) → (a ≡ 0) ⊎ (b ≡ 0) → chains_same es ds n a b ≡ eqb a b
   unfolding chain_along same_list
-  same_empty zero a zero e = rw e
-  same_empty zero a (suc s) e = rw (e, ne_eqb (suc s) 0 (λ q. omega (arith, q)))
-  same_empty (suc n) a zero e = rw e
-  same_empty (suc n) a (suc s) e =
-      rw (e, ne_eqb (suc s) 0 (λ q. omega (arith, q)))
-      (alike-second same_entry (Some (entry_of (get_or ds s no_entry).tag (get_or ds s no_entry).position))
-      (chain_along ds n (get_or ds s no_entry).link))
+  same_ended zero zero zero h = refl
+  same_ended (suc n) zero zero h = refl
+  same_ended zero zero (suc s) h = rw (eqb-zero-suc s)
+  same_ended (suc n) zero (suc s) h =
+      rw (eqb-zero-suc s)
+      (sym (alike-second same_entry (Some (entry_of (get_or ds s no_entry).tag (get_or ds s no_entry).position))
+      (chain_along ds n (get_or ds s no_entry).link)))
+  same_ended zero (suc r) zero h = rw (eqb-suc-zero r)
+  same_ended (suc n) (suc r) zero h =
+      rw (eqb-suc-zero r)
+      (sym (alike-first same_entry (Some (entry_of (get_or es r no_entry).tag (get_or es r no_entry).position))
+      (chain_along es n (get_or es r no_entry).link)))
+  same_ended n (suc r) (suc s) h = absurd (omega (arith, h))
 
-  -- the second alone is
-  pub same_ended : (n a b : ℕ) → (a ≡ 0 → ⊥) → b ≡ 0 → false ≡ chains_same es ds n a b
+  -- no entry is allowed
+  pub same_long : (n a b : ℕ) → n ≡ 0 → chains_same es ds n a b ≡ (eqb a 0 && eqb b 0)
   unfolding chain_along same_list
-  same_ended n zero b h e = absurd (h refl)
-  same_ended zero (suc r) b h e = refl
-  same_ended (suc n) (suc r) b h e =
-      rw e
-      (alike-first same_entry (Some (entry_of (get_or es r no_entry).tag (get_or es r no_entry).position))
-      (chain_along es n (get_or es r no_entry).link))
+  same_long zero zero zero h = refl
+  same_long zero zero (suc s) h = rw (eqb-suc-zero s)
+  same_long zero (suc r) b h = rw (eqb-suc-zero r)
+  same_long (suc n) a b h = absurd (omega arith)
 
-  -- none of its entries is allowed
-  pub same_long : (a b : ℕ) → (a ≡ 0 → ⊥) → false ≡ chains_same es ds 0 a b
-  unfolding chain_along
-  same_long zero b h = absurd (h refl)
-  same_long (suc r) b h = refl
-
-  -- an entry of each
+  -- an entry of each, x and y
   pub same_entries :
-      (n a b : ℕ) → 0 < n → (a ≡ 0 → ⊥) → (b ≡ 0 → ⊥) → (x y : EntryRow) → x ≡ get_or es (a - 1) no_entry → y ≡ get_or ds (b - 1) no_entry
+      (n left a b : ℕ) → n ≡ left + 1 → (a ≡ 0 → ⊥) → (b ≡ 0 → ⊥) → (x y : EntryRow) → x ≡ get_or es (a - 1) no_entry
+      → y ≡ get_or ds (b - 1) no_entry
       → chains_same es ds n a b ≡ (same_entry (entry_of x.tag x.position) (entry_of y.tag y.position)
-      && chains_same es ds (n - 1) x.link y.link)
+      && chains_same es ds left x.link y.link)
   unfolding chain_along
-  same_entries zero a b h ha hb x y ex ey = absurd (omega arith)
-  same_entries (suc n) zero b h ha hb x y ex ey = absurd (ha refl)
-  same_entries (suc n) (suc r) zero h ha hb x y ex ey = absurd (hb refl)
-  same_entries (suc n) (suc r) (suc s) h ha hb x y ex ey =
-      let en : suc n - 1 ≡ n = omega arith in
+  same_entries zero left a b h ha hb x y ex ey = absurd (omega arith)
+  same_entries (suc n) left zero b h ha hb x y ex ey = absurd (ha refl)
+  same_entries (suc n) left (suc r) zero h ha hb x y ex ey = absurd (hb refl)
+  same_entries (suc n) left (suc r) (suc s) h ha hb x y ex ey =
+      let en : left ≡ n = omega arith in
       let er : suc r - 1 ≡ r = omega arith in
       let es' : suc s - 1 ≡ s = omega arith in
       rw (en, ex, ey, er, es')
@@ -132,51 +131,3 @@ module _ (es ds : List EntryRow) where
   same_buckets_lem n (l ∷ ls) (k ∷ ks) =
       ap (λ (b : Bool). chains_same es ds n l k && b) (same_buckets_lem n ls ks)
       ∙ sym (alike-onto (same_list same_entry) (chain_along es n l) (chain_along ds n k) (chains_along es n ls) (chains_along ds n ks))
-
--- entries that differ in one word
-other_tag : (a b p q : ℕ) → (a ≡ b → ⊥) → same_entry (entry_of a p) (entry_of b q) ≡ false
-other_tag a b p q h = rw (ne_eqb a b h)
-
-other-position : (a b p q : ℕ) → (p ≡ q → ⊥) → same_entry (entry_of a p) (entry_of b q) ≡ false
-other-position a b p q h = rw (ne_eqb p q h) (sym (and-false same_entry (eqb a b)))
-
--- What is left of two chains is alike just where the chains are.
-pub record Following (es ds : List EntryRow) (n a₀ b₀ left a b : ℕ) : Type 0 where
-  pub same : chains_same es ds n a₀ b₀ ≡ chains_same es ds left a b
-
-pub follow_start : (es ds : List EntryRow) (n a b : ℕ) → Following es ds n a b n a b
-follow_start es ds n a b = record { same = refl }
-
-module _ {es ds : List EntryRow} {n a₀ b₀ left a b : ℕ} (s : Following es ds n a₀ b₀ left a b) where
-  pub follow_empty : a ≡ 0 → eqb b 0 ≡ chains_same es ds n a₀ b₀
-  follow_empty e = same_empty es ds left a b e ∙ sym s.same
-
-  pub follow_ended : (a ≡ 0 → ⊥) → b ≡ 0 → false ≡ chains_same es ds n a₀ b₀
-  follow_ended h e = same_ended es ds left a b h e ∙ sym s.same
-
-  pub follow_long : left ≤ 0 → (a ≡ 0 → ⊥) → false ≡ chains_same es ds n a₀ b₀
-  follow_long z h =
-      let e : left ≡ 0 = omega arith in
-      same_long es ds a b h ∙ sym (rw e at s.same)
-
-  -- x and y are the rows that the links lead to
-  module _
-      (h : 0 < left) (ha : a ≡ 0 → ⊥) (hb : b ≡ 0 → ⊥) {i j : ℕ} (ei : i ≡ a) (ej : j ≡ b) {x y : EntryRow}
-      (ex : x ≡ get_or es (i - 1) no_entry) (ey : y ≡ get_or ds (j - 1) no_entry)
-    where
-      step :
-          chains_same es ds n a₀ b₀
-          ≡ (same_entry (entry_of x.tag x.position) (entry_of y.tag y.position)
-          && chains_same es ds (left - 1) x.link y.link)
-      step = s.same ∙ same_entries es ds left a b h ha hb x y (rw ei at ex) (rw ej at ey)
-
-      pub follow-other-tag : (x.tag ≡ y.tag → ⊥) → false ≡ chains_same es ds n a₀ b₀
-      follow-other-tag q = sym (step ∙ rw (other_tag x.tag y.tag x.position y.position q))
-
-      pub follow-other-position : (x.position ≡ y.position → ⊥) → false ≡ chains_same es ds n a₀ b₀
-      follow-other-position q = sym (step ∙ rw (other-position x.tag y.tag x.position y.position q))
-
-      pub follow-more :
-          x.tag ≡ y.tag → x.position ≡ y.position → Following es ds n a₀ b₀ (left - 1) x.link y.link
-      follow-more t p =
-          record { same = step ∙ rw (eq-eqb x.tag y.tag t, eq-eqb x.position y.position p) }

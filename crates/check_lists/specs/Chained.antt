@@ -13,7 +13,7 @@ entries_in (t ∷ p ∷ l ∷ w) = entry_row t p l ∷ entries_in w
 
 -- the row that the code's stands for
 abbrev pub meant_row : Row → EntryRow
-meant_row r = entry_row r.tag r.position r.link
+meant_row r = entry_row r.entry.tag r.entry.position r.link
 
 -- both stand and are alike
 abbrev pub alike : {A : Type 0} → (A → A → Bool) → Option A → Option A → Bool

@@ -2,68 +2,38 @@
 // of two tables of entries. Each comparison stops at the first difference.
 #![tactic(auto)]
 
-ghost use Rattle.std.specs.Prelude.{◌≡◌, min, ◌-◌, take, get_or};
-ghost use Rattle.format.specs.Check.{chain_along, chains_along, no_entry, same_entry, same_list, same_words};
+ghost use Rattle.std.specs.Prelude.{◌≡◌, take, get_or};
+ghost use Rattle.format.specs.Check.{chain_along, chains_along, no_entry, same_entry, same_list};
 ghost use Rattle.check_lists.specs.Chained.{alike, entries_in, meant_row};
+
+// An entry of a chain.
+#[derive(Clone, Copy, PartialEq, Eq)]
+struct Entry {
+    tag: u32,
+    position: u32,
+}
 
 // A row of a table of entries. `link` is 0 at a chain's end, and otherwise one more than the next entry's row.
 #[derive(Clone, Copy)]
 struct Row {
-    tag: u32,
-    position: u32,
+    entry: Entry,
     link: u32,
 }
 
-// The lesser of two counts.
-fn lesser(a: usize, b: usize) -> usize
-    ensures answer { result ≡ min a b }
+// The first n of a table, or all where it has fewer.
+fn front<T>(table: &[T], n: usize) -> &[T]
+    ensures first { result.now ≡ take n table.now }
 {
-    if a < b { a } else { b }
-}
-
-// A link as an index.
-fn wide(link: u32) -> usize
-    ensures answer { result ≡ link }
-{
-    link as usize
+    &table[..n.min(table.len())]
 }
 
 // ---- words
 
 // Whether the first k words of a table equal the first m of another, their number included; a table that has fewer gives them all.
-pub fn same_words(a: &[u32], k: usize, b: &[u32], m: usize) -> bool
-    ensures answer { result ≡ same_words (take k a.now) (take m b.now) }
+pub fn same_words<T: PartialEq>(a: &[T], k: usize, b: &[T], m: usize) -> bool
+    ensures answer { result ≡ same_list T.eq (take k a.now) (take m b.now) }
 {
-    let n = lesser(k, a.len());
-    if lesser(m, b.len()) != n {
-        return false;
-    }
-    let mut i = 0;
-    while i < n {
-        if a[i] != b[i] {
-            return false;
-        }
-        i += 1;
-    }
-    true
-}
-
-// The same of 16-bit words.
-pub fn same_halves(a: &[u16], k: usize, b: &[u16], m: usize) -> bool
-    ensures answer { result ≡ same_words (take k a.now) (take m b.now) }
-{
-    let n = lesser(k, a.len());
-    if lesser(m, b.len()) != n {
-        return false;
-    }
-    let mut i = 0;
-    while i < n {
-        if a[i] != b[i] {
-            return false;
-        }
-        i += 1;
-    }
-    true
+    front(a, k) == front(b, m)
 }
 
 // ---- chains
@@ -73,16 +43,19 @@ fn row_at(entries: &[u32], r: usize) -> Row
     ensures answer { meant_row result ≡ get_or (entries_in entries.now) r no_entry }
 {
     if r >= entries.len() / format::ENTRY_WORDS {
-        return Row {
+        let entry = Entry {
             tag: 0,
             position: 0,
-            link: 0,
         };
+        return Row { entry, link: 0 };
     }
     let at = format::ENTRY_WORDS * r;
-    Row {
+    let entry = Entry {
         tag: entries[at],
         position: entries[at + format::ENTRY_POSITION],
+    };
+    Row {
+        entry,
         link: entries[at + format::ENTRY_LINK],
     }
 }
@@ -94,30 +67,19 @@ fn same_chain(entries: &[u32], link: u32, derived: &[u32], head: u32, n: usize) 
 {
     let mut a = link;
     let mut b = head;
-    let mut left = n;
-    while left > 0 {
-        if a == 0 {
-            return b == 0;
+    for _met in 0..n {
+        if a == 0 || b == 0 {
+            return a == b;
         }
-        if b == 0 {
-            return false;
-        }
-        let x = row_at(entries, wide(a) - 1);
-        let y = row_at(derived, wide(b) - 1);
-        if x.tag != y.tag {
-            return false;
-        }
-        if x.position != y.position {
+        let x = row_at(entries, a as usize - 1);
+        let y = row_at(derived, b as usize - 1);
+        if x.entry != y.entry {
             return false;
         }
         a = x.link;
         b = y.link;
-        left -= 1;
     }
-    if a != 0 {
-        return false;
-    }
-    b == 0
+    a == 0 && b == 0
 }
 
 // Whether the chains of the first `count` buckets of a table equal those of the first c of another, their number included. A chain
@@ -135,16 +97,15 @@ pub fn same_chains(
         (chains_along (entries_in entries.now) n (take count buckets.now))
         (chains_along (entries_in derived.now) n (take c heads.now)) }
 {
-    let k = lesser(count, buckets.len());
-    if lesser(c, heads.len()) != k {
+    let links = front(buckets, count);
+    let derived_links = front(heads, c);
+    if links.len() != derived_links.len() {
         return false;
     }
-    let mut i = 0;
-    while i < k {
-        if !same_chain(entries, buckets[i], derived, heads[i], n) {
+    for (&link, &head) in links.iter().zip(derived_links) {
+        if !same_chain(entries, link, derived, head, n) {
             return false;
         }
-        i += 1;
     }
     true
 }

@@ -14,7 +14,7 @@ ghost use Rattle.derive_matrices.specs.Transforming.{transformed_of};
 ghost use Rattle.check_stages.specs.Agreement.{agreement_of, chains_judged, indices_judged, matrices_judged};
 ghost use Rattle.check_stages.specs.Agreement.{chains_stage, indices_stage, matrices_stage};
 
-use check_lists::{same_chains, same_halves, same_words};
+use check_lists::{same_chains, same_words};
 use derive_chains::buckets::{bucket_count, entry_count};
 use derive_chains::tags::{Tagged, build_bone_tags};
 use derive_children::indices::{Indexed, build_indices};
@@ -140,10 +140,10 @@ fn indices_judged(
     match derived {
         Indexed::Refused(r) => Agreement::Refused(r),
         Indexed::Done(k) => {
-            if !same_halves(parents, p, dparents, n) {
+            if !same_words(parents, p, dparents, n) {
                 return Agreement::Refused(Refusal::Parents);
             }
-            if !same_halves(children, c, dchildren, k) {
+            if !same_words(children, c, dchildren, k) {
                 return Agreement::Refused(Refusal::Children);
             }
             Agreement::Same

@@ -1,10 +1,10 @@
--- `check_lists::same_chain` meets its contract: what is left of the two chains is alike just where the chains are. Assumes nothing.
+-- What is left of the two chains is alike just where the chains are.
+use Rattle.std.proofs.Common.{◌≡◌, ◌-◌}
 use Rattle.check_lists.specs.Chained.{entries_in}
-use Rattle.check_lists.proofs.Entries.{Following}
+use Rattle.check_lists.proofs.Entries.{chains_same}
 use Rattle.check_lists.proofs.same_chain.Given as goal
 
-abbrev pub invariant-loop-left : goal.invariant-loop-left
-invariant-loop-left l = Following (entries_in l.entries) (entries_in l.derived) l.n l.link l.head l.left l.a l.b
-
-abbrev pub decreases-loop-left : goal.decreases-loop-left
-decreases-loop-left l = l.left
+abbrev pub invariant-loop-met : goal.invariant-loop-met
+invariant-loop-met l =
+    chains_same (entries_in l.entries) (entries_in l.derived) (l.n - l._met) l.a l.b
+    ≡ chains_same (entries_in l.entries) (entries_in l.derived) l.n l.link l.head
