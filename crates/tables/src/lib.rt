@@ -1,6 +1,8 @@
 // Lent tables and buffers (docs/FORMAT.md, "Who can cause a refusal"): clearing tables, and the written front of a buffer.
 #![tactic(auto)]
 
+pub mod working; // the tables that deriving fills
+
 ghost use Rattle.std.specs.Prelude.{◌≡◌, ◌++◌, ◌-◌, length, take, replicate};
 ghost use Rattle.tables.specs.Front.{front_of};
 

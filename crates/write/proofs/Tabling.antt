@@ -2,6 +2,7 @@
 -- Assumes nothing.
 use mathlib.Core.Path.{◌≡◌, refl, sym, ap, ◌∙◌}
 use mathlib.Core.Bool.{Bool, true, false}
+use Rattle.std.specs.Prelude.{Ok, Err}
 use mathlib.Core.List.{List, flat_map}
 use Prim.Native.Nat.{ℕ, ◌+◌, ◌-◌, ◌*◌, ◌≤◌}
 use native.Mathlib.Omega.{arith}
@@ -27,12 +28,12 @@ use Rattle.derive_children.proofs.IndicesOutcome.{enough_indices}
 use Rattle.tables.specs.Outcome.{derived as derived-matrices}
 use Rattle.derive_matrices.specs.Transforming.{matrices_hold, matrices_result, MatrixRows}
 use Rattle.derive_matrices.proofs.MatrixRoom.{holds-all}
+use Rattle.rows.proofs.Rows.{length-bones_of}
 use Rattle.write.specs.Names.{RowsHere}
 use Rattle.write.specs.Filling.{kids_of}
 use Rattle.write.specs.Outcome.{derived_in}
 use Rattle.write.specs.Working.{Derives}
 use Rattle.tables.specs.Working.{Working, room_in}
-use Rattle.write.specs.declared.working.Derived.TheVariants.{Children, Refused}
 
 -- ---- room, by numbers
 
@@ -206,7 +207,7 @@ module _ (n : ℕ) (t : List ℕ) (x : Working) (here : RowsHere t n) where
       → MatrixRows (matrices_result n (length t) (length x.inverse) (length x.local)) (bones_of n t) x.inverse y.inverse x.local y.local
       → y.parents ≡ leaves indices_give (parents (bones_of n t)) (length x.parents)
       → y.children ≡ leaves indices_give (children_of n t) (length x.children)
-      → Derives n t (Children k) x y
+      → Derives n t (Ok k) x y
   unfolding derived_in
   all-derived {r₁} {c} {r₂} {r₃} {k} y e₁ q₁ e₂ q₂ e₃ q₃ s hb he hm hp hc =
       let i = indices_room_lem e₃ q₃ in
@@ -217,19 +218,20 @@ module _ (n : ℕ) (t : List ℕ) (x : Working) (here : RowsHere t n) where
       let l = rw (← (ap outcome (sym q₂) ∙ e₂)) at hm.local in
       let p = rw (← (ap outcome (sym q₃) ∙ e₃)) at hp in
       let w = rw (← (ap outcome (sym q₃) ∙ e₃)) at hc in
+      let n' = length-bones_of n t in
       record {
         answer = rw (rooms.enough_derives n _ _ _ _ _ _ _ room, i.1);
         rows =
             record {
-              heads_hold = omega (arith, room.buckets, s.buckets);
+              heads_hold = omega (arith, room.buckets, s.buckets, ap bucket_count n');
               heads_are = still-laid (bucket_rows (tags (bones_of n t))) (length x.buckets) b s.buckets;
-              rows_hold = omega (arith, room.entries, s.entries);
+              rows_hold = omega (arith, room.entries, s.entries, ap entry_count n');
               rows_are = still-laid (flat_map entry_words (entry_rows (tags (bones_of n t)))) (length x.entries) e s.entries;
-              inverse_holds = omega (arith, room.inverse, s.inverse);
+              inverse_holds = omega (arith, room.inverse, s.inverse, n');
               inverse_is = still-laid (inverses (bones_of n t)) (length x.inverse) v s.inverse;
-              local_holds = omega (arith, room.local, s.local);
+              local_holds = omega (arith, room.local, s.local, n');
               local_is = still-laid (locals (bones_of n t)) (length x.local) l s.local;
-              parents_hold = omega (arith, room.parents, s.parents);
+              parents_hold = omega (arith, room.parents, s.parents, n');
               parents_are = still-laid (parents (bones_of n t)) (length x.parents) p s.parents;
               children_hold = omega (arith, laid-fits (kids_of (bones_of n t)) (length x.children) w s.children, s.children);
               children_are = still-laid (kids_of (bones_of n t)) (length x.children) w s.children;
@@ -237,5 +239,5 @@ module _ (n : ℕ) (t : List ℕ) (x : Working) (here : RowsHere t n) where
       }
 
   -- a refusal of any call
-  pub derived_stops : {y : Refusal} (z : Working) → refused (number y) ≡ derived_in (room_in x) n t → Derives n t (Refused y) x z
+  pub derived_stops : {y : Refusal} (z : Working) → refused (number y) ≡ derived_in (room_in x) n t → Derives n t (Err y) x z
   derived_stops z e = record { answer = e; rows = tt }
