@@ -16,10 +16,9 @@ use lib.Dec.{leb}
 use lib.ListN.{length, get_or, take, drop, length-drop}
 use lib.Seq.{sets, length-sets, drop-cons, drop-drop, take-add, get_or-drop, length-take-le}
 use Rattle.format.specs.Field.{value_of, field, bytes, stands, or_zero, field_at, which_list, put_at}
-use Rattle.fields.specs.declared.Placed.TheVariants.{Stored, Outside}
-use Rattle.fields.specs.Placed.{placed_of}
 use Rattle.format.proofs.Fields.{length-bytes, bytes-add, bytes-mod, pow_pos, value_of-append, value_of_lt, value_of-bytes, bytes-value_of}
-use Rattle.fields.proofs.Stores.{sets-append, part-sets-same, sets-part, part-sets-other}
+use borrow.Rule.Slice.PartMut.{put_mid}
+use Rattle.fields.proofs.Stores.{put_mid-sets, sets-append, part-sets-same, sets-part, part-sets-other}
 
 -- ---- a field by its first byte, and by a lower and an upper one
 
@@ -144,22 +143,34 @@ stands-left k n at h =
     (λ (l : n < at + k). lt-leb k (n - at) (omega arith) ∙ sym (lt-leb (at + k) n l))
     (le-or-lt (at + k) n)
 
--- what the code finds, by the answer t of its test
+-- ---- what the code finds, by the answer t of its test, where m and m' are the width as it reads it
 
-module _ (k : ℕ) (s : List ℕ) (at : ℕ) {t : Bool} (test : t ≡ stands k s at) where
-  pub test_true : t ≡ true → at + k ≤ length s
-  test_true e = leb-true (at + k) (length s) (sym test ∙ e)
+pub test_true : (k : ℕ) (s : List ℕ) (at : ℕ) {t : Bool} → t ≡ stands k s at → t ≡ true → at + k ≤ length s
+test_true k s at test e = leb-true (at + k) (length s) (sym test ∙ e)
 
-  pub load_inside : {r : ℕ} → t ≡ true → r ≡ field k s at → r ≡ field_at k s at
-  load_inside e f = f ∙ sym (field_at-stands k s at (test_true e))
+module _ (k : ℕ) (s : List ℕ) (at : ℕ) {m : ℕ} (size : m ≡ k) {t : Bool} (test : t ≡ stands m s at) where
+  pub room : t ≡ true → at + k ≤ length s
+  room e = rw size at (leb-true (at + m) (length s) (sym test ∙ e))
 
-  pub load_outside : t ≡ false → 0 ≡ field_at k s at
-  load_outside e = sym (field_at_outside k s at (leb-false (at + k) (length s) (sym test ∙ e)))
+  pub none : t ≡ false → length s < at + k
+  none e = rw size at (leb-false (at + m) (length s) (sym test ∙ e))
 
-  pub store-inside :
-      {x : List ℕ} (v : ℕ) → t ≡ true → x ≡ sets s at (bytes k v) → (placed_of Stored ≡ stands k s at) × (x ≡ put_at k s at v)
-  store-inside v e f = (sym e ∙ test, f ∙ sym (put_at-stands k s at v (test_true e)))
+  module _ {A : Type 0} (value : ℕ → A) where
+    pub read_inside :
+        {m' : ℕ} {r : A} → m' ≡ k → t ≡ true → r ≡ value (value_of (take (at + m' - at) (drop at s))) → r ≡ value (field_at k s at)
+    read_inside {m'} e h f =
+        let n : at + m' - at ≡ k = omega (arith, e) in
+        f ∙ ap value (rw n (sym (field_at-stands k s at (room h))))
 
-  pub store_outside : (v : ℕ) → t ≡ false → (placed_of Outside ≡ stands k s at) × (s ≡ put_at k s at v)
-  store_outside v e =
-      (sym e ∙ test, sym (put_at_outside k s at v (leb-false (at + k) (length s) (sym test ∙ e))))
+    pub read_outside : {r z : A} → t ≡ false → r ≡ z → z ≡ value 0 → r ≡ value (field_at k s at)
+    read_outside h e f = e ∙ f ∙ ap value (sym (field_at_outside k s at (none h)))
+
+  module _ (v : ℕ) where
+    pub put_inside :
+        {m' : ℕ} {x : List ℕ} → m' ≡ k → t ≡ true → x ≡ bytes k v → put_mid at (at + m' - at) s x ≡ put_at k s at v
+    put_inside {m'} {x} e h f =
+        let n : at + m' - at ≡ k = omega (arith, e) in
+        rw n (put_mid-sets at k s x (rw f (length-bytes k v)) (room h) ∙ ap (sets s at) f ∙ sym (put_at-stands k s at v (room h)))
+
+    pub put_outside : t ≡ false → s ≡ put_at k s at v
+    put_outside h = sym (put_at_outside k s at v (none h))

@@ -1,19 +1,26 @@
 -- A run of bytes stored in a list: what then stands in its place, and elsewhere. Fields in a slice that may be too short are in `Laws`.
 -- Assumes nothing.
-use mathlib.Core.Path.{◌≡◌, refl, ap, ◌∙◌}
+use mathlib.Core.Path.{◌≡◌, refl, sym, ap, ◌∙◌}
 use mathlib.Core.Logic.{◌⊎◌, inl, inr}
 use mathlib.Core.List.{List, [], ◌∷◌, ◌++◌, append_assoc}
 use Prim.Native.Nat.{ℕ, suc, ◌+◌, ◌-◌, ◌≤◌}
 use native.Mathlib.Nat.{add-zero, add-suc, suc-add}
 use native.Mathlib.Omega.{arith}
 use lib.ListN.{length, set, take, drop, length-drop, take-append-drop}
+use borrow.Rule.Slice.PartMut.{put_mid}
 use lib.Seq.{sets, sets-eq, take_at, drop_at, drop-drop, take-set-le, drop-set-lt, drop-set-add, length-take-le}
 
 -- ---- a run of stores
 
-pub sets-append : (a b s : List ℕ) (at : ℕ) → sets s at (a ++ b) ≡ sets (sets s at a) (at + length a) b
+pub sets-append : {A : Type 0} (a b s : List A) (at : ℕ) → sets s at (a ++ b) ≡ sets (sets s at a) (at + length a) b
 sets-append [] b s at = simp add-zero
 sets-append (x ∷ a) b s at = simp (sets-append a b (set s at x) (suc at), add-suc, suc-add)
+
+-- a part of a slice that is written over, as the code gives it back
+pub put_mid-sets :
+    {A : Type 0} (at k : ℕ) (s vs : List A) → length vs ≡ k → at + k ≤ length s → put_mid at k s vs ≡ sets s at vs
+put_mid-sets at k s vs n h =
+    sym (sets-eq vs s at (omega (arith, n, h)) ∙ simp (append_assoc, drop-drop, n))
 
 -- what was stored stands in its place
 pub part-sets-same : (vs s : List ℕ) (at : ℕ) → at + length vs ≤ length s → take (length vs) (drop at (sets s at vs)) ≡ vs

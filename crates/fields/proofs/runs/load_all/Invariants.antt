@@ -1,11 +1,10 @@
--- `fields::runs::load_all` meets its contract: `Put` holds at each turn. Assumes nothing.
-use Prim.Native.Nat.{◌-◌}
+-- The first i blocks stand in the table. Assumes nothing.
+use Prim.Native.Nat.{◌*◌}
+use lib.ListN.{length}
 use Rattle.format.specs.Field.{words}
 use Rattle.fields.proofs.RunLaws.{Put}
 use Rattle.fields.proofs.runs.load_all.Given as goal
 
 abbrev pub invariant-loop-i : goal.invariant-loop-i
-invariant-loop-i l = Put (words 4 l.n l.s) l.n l.initial.t l.to l.t l.i
-
-abbrev pub decreases-loop-i : goal.decreases-loop-i
-decreases-loop-i l = l.n - l.i
+invariant-loop-i g l =
+    Put (g.T.Pod.values (words g.T.Pod.SIZE (length l.initial.t) l.s)) (length l.initial.t) l.initial.t 0 l.t (16 * l.i)
