@@ -79,9 +79,9 @@ fn words3_at(s: &[u8], at: usize) -> Words3
 {
     if fields::stands(s, at, 12) {
         return Words3 {
-            x: fields::u32_at(s, at),
-            y: fields::u32_at(s, at + 4),
-            z: fields::u32_at(s, at + 8),
+            x: fields::read::<u32>(s, at),
+            y: fields::read::<u32>(s, at + 4),
+            z: fields::read::<u32>(s, at + 8),
         };
     }
     Words3 { x: 0, y: 0, z: 0 }
@@ -93,10 +93,10 @@ fn words4_at(s: &[u8], at: usize) -> Words4
 {
     if fields::stands(s, at, 16) {
         return Words4 {
-            x: fields::u32_at(s, at),
-            y: fields::u32_at(s, at + 4),
-            z: fields::u32_at(s, at + 8),
-            w: fields::u32_at(s, at + 12),
+            x: fields::read::<u32>(s, at),
+            y: fields::read::<u32>(s, at + 4),
+            z: fields::read::<u32>(s, at + 8),
+            w: fields::read::<u32>(s, at + 12),
         };
     }
     Words4 {
@@ -163,7 +163,7 @@ impl<'a> Cursor<'a> {
         let after_read = take(data, at, 2, self.overrun);
         self.pos = after_read.pos;
         self.overrun = after_read.overrun;
-        fields::u16_at(data, at)
+        fields::read::<u16>(data, at)
     }
 
     // A signed number as its pattern, negative from 32768 on.
@@ -176,7 +176,7 @@ impl<'a> Cursor<'a> {
         let after_read = take(data, at, 2, self.overrun);
         self.pos = after_read.pos;
         self.overrun = after_read.overrun;
-        fields::u16_at(data, at)
+        fields::read::<u16>(data, at)
     }
 
     pub fn u32(&mut self) -> u32
@@ -188,7 +188,7 @@ impl<'a> Cursor<'a> {
         let after_read = take(data, at, 4, self.overrun);
         self.pos = after_read.pos;
         self.overrun = after_read.overrun;
-        fields::u32_at(data, at)
+        fields::read::<u32>(data, at)
     }
 
     pub fn u64(&mut self) -> u64
@@ -200,7 +200,7 @@ impl<'a> Cursor<'a> {
         let after_read = take(data, at, 8, self.overrun);
         self.pos = after_read.pos;
         self.overrun = after_read.overrun;
-        fields::u64_at(data, at)
+        fields::read::<u64>(data, at)
     }
 
     // A float as its word.
@@ -213,7 +213,7 @@ impl<'a> Cursor<'a> {
         let after_read = take(data, at, 4, self.overrun);
         self.pos = after_read.pos;
         self.overrun = after_read.overrun;
-        fields::u32_at(data, at)
+        fields::read::<u32>(data, at)
     }
 
     // Three floats as their words, all or none.

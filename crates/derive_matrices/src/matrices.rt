@@ -10,7 +10,6 @@ ghost use Rattle.derive_matrices.specs.Transforming.{matrices_hold, matrices_res
 ghost use Rattle.derive_matrices.specs.Transforming.{MatrixRoom, MatricesFirst, MatrixRows, Continues};
 
 use crate::walk::{Climber, Joint, Pose, before, joint_in, plain_rows, side_by_side, walked};
-use fields::runs;
 use format::{MATRIX_WORDS, Refusal};
 use math::{Mat4, Vec3};
 use rows::{kept_at, scale_at};
@@ -83,7 +82,7 @@ fn put_matrix(t: &mut [u32], at: usize, w: [u32; 16])
     requires { at + 16 ≤ length t.old }
     ensures rows { t.new ≡ sets t.old at w }
 {
-    runs::copy_words(&w, 0, MATRIX_WORDS, t, at);
+    t[at..at + MATRIX_WORDS].copy_from_slice(&w);
 }
 
 // Stores in row p the inverse matrix of a bone whose walk stands there with so many steps done.

@@ -22,6 +22,14 @@ pub put_mid-sets :
 put_mid-sets at k s vs n h =
     sym (sets-eq vs s at (omega (arith, n, h)) ∙ simp (append_assoc, drop-drop, n))
 
+-- what the code writes over its part of k cells from a place on
+pub written-over :
+    {A : Type 0} (k : ℕ) (s : List A) (at : ℕ) (vs : List A) {x : List A} → length vs ≡ k → at + k ≤ length s → x ≡ vs
+    → put_mid at (at + k - at) s x ≡ sets s at vs
+written-over k s at vs {x} n h e =
+    let m : at + k - at ≡ k = omega arith in
+    rw (m, e) (put_mid-sets at k s vs n h)
+
 -- what was stored stands in its place
 pub part-sets-same : (vs s : List ℕ) (at : ℕ) → at + length vs ≤ length s → take (length vs) (drop at (sets s at vs)) ≡ vs
 part-sets-same vs s at h =

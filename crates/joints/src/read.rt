@@ -64,11 +64,11 @@ fn load_record(s: &[u8], at: usize) -> Record
     ensures { result ≡ record_of (take 52 (drop at s.now)) }
 {
     Record {
-        kind: fields::u32_at(s, at),
-        rotation: fields::u64_at(s, at + 16),
-        translation: fields::u64_at(s, at + 24),
-        rotation_count: fields::u16_at(s, at + 48),
-        translation_count: fields::u16_at(s, at + 50),
+        kind: fields::read::<u32>(s, at),
+        rotation: fields::read::<u64>(s, at + 16),
+        translation: fields::read::<u64>(s, at + 24),
+        rotation_count: fields::read::<u16>(s, at + 48),
+        translation_count: fields::read::<u16>(s, at + 50),
     }
 }
 

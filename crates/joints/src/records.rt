@@ -48,7 +48,7 @@ pub(crate) fn load_rotation(s: &[u8], t: &mut [u32], to: usize)
     requires { (192 ≤ length s.now) × (to + 49 ≤ length t.old) }
     ensures { t.new ≡ sets t.old to (rotation_words (rotation_limit (words 4 48 s.now))) }
 {
-    let id = fields::u32_at(s, 8);
+    let id = fields::read::<u32>(s, 8);
     t[to] = id % 65536;
     load_bounds(s, 92, 104, t, to + format::LIMIT_LEAST);
     rotation_others(s, t, to + format::LIMIT_OTHER);
@@ -60,7 +60,7 @@ pub(crate) fn load_translation(s: &[u8], t: &mut [u32], to: usize)
     ensures { t.new ≡
         sets t.old to (translation_words (translation_limit (words 4 16 s.now))) }
 {
-    t[to] = fields::u32_at(s, 8);
+    t[to] = fields::read::<u32>(s, 8);
     load_bounds(s, 32, 48, t, to + format::LIMIT_LEAST);
     translation_others(s, t, to + format::LIMIT_OTHER);
 }

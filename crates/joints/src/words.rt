@@ -11,7 +11,7 @@ pub(crate) fn load(s: &[u8], from: usize, n: usize, t: &mut [u32], to: usize)
     requires { (from + 4 * n ≤ length s.now) × (to + n ≤ length t.old) }
     ensures { t.new ≡ sets t.old to (words 4 n (drop from s.now)) }
 {
-    runs::load_words(s, from, n, t, to);
+    let _ = runs::load(s, from, n, t, to);
 }
 
 // The n words of the table from `from` on, put into the bytes from `at` on.
@@ -20,5 +20,5 @@ pub(crate) fn store(t: &[u32], from: usize, n: usize, d: &mut [u8], at: usize)
     ensures { d.new ≡ sets d.old at (word_bytes 4 (take n (drop from t.now))) }
 {
     let e = from + n;
-    runs::put_words(d, at, &t[from..e]);
+    let _ = runs::put(d, at, &t[from..e]);
 }

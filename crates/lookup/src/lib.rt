@@ -70,11 +70,11 @@ fn lookup_in(sys: &[u8], gfx: &[u8], tag: u16, n: u16, va: u64, c: u16) -> Looke
     let at = POINTER * ((tag % c) as usize);
     match places::locate(sys, gfx, va, POINTER * (c as usize)) {
         Located::System(o) => {
-            let first = fields::u64_at(sys, o + at);
+            let first = fields::read::<u64>(sys, o + at);
             follow(sys, gfx, tag, n, first)
         }
         Located::Graphics(o) => {
-            let first = fields::u64_at(gfx, o + at);
+            let first = fields::read::<u64>(gfx, o + at);
             follow(sys, gfx, tag, n, first)
         }
         Located::Refused(r) => Looked::Refused(r),

@@ -27,10 +27,10 @@ use Rattle.blocks.specs.declared.pool.Stored.TheVariants.{Done, Full}
 use Rattle.blocks.proofs.Standing.{bytes_at, part-standing, standing-done}
 use Rattle.blocks.proofs.Storing.{after, put-fits, put-done, tables-done, tables-full}
 use Rattle.rows.specs.Row.{has_row, put_row}
-use Rattle.rows.specs.Value.{meant_bone, stored_of}
+use Rattle.rows.specs.Value.{meant_bone}
 use Rattle.rows.specs.declared.Bone.{Bone}
-use Rattle.rows.specs.declared.RowStored.{RowStored}
-use Rattle.rows.specs.declared.RowStored.TheVariants.{Done as row_done, NoRoom}
+use Rattle.std.specs.Prelude.{Result, Ok, Err, is_err}
+use Rattle.format.specs.Refusal.{outcome}
 use Rattle.read_bones.specs.Lent.{leaving}
 use Rattle.read_bones.specs.Bones.{bone_fields, name_step, NameTable, PoolLeft, NameLeft, ReadsName}
 use Rattle.read_bones.specs.Bones.{Before, BoneFrom, NewBone, ReadsBone}
@@ -67,13 +67,15 @@ row_of-bytes b n e = rw e refl
 -- ---- a bone that was not read before
 
 -- what the answer x of `put_bone` tells of the test q
-stored_not : (q : Bool) {x : RowStored} → stored_of x ≡ need 1 q → x ≡ NoRoom → q ≡ false
-stored_not true e f = let g = sym (ap stored_of f) ∙ e in let z : ◌≡◌ {A = ℕ} 0 1 = cc in absurd (omega arith)
-stored_not false e f = refl
+stored_not : (q : Bool) (x : Result (Unit {0}) Refusal) → outcome x ≡ need 1 q → is_err x ≡ true → q ≡ false
+stored_not true (Ok a) e f = absurd (cc f)
+stored_not true (Err r) e f = absurd (cc e)
+stored_not false x e f = refl
 
-pub stored_is : (q : Bool) {x : RowStored} → stored_of x ≡ need 1 q → x ≡ row_done → q ≡ true
-stored_is true e f = refl
-stored_is false e f = let g = sym (ap stored_of f) ∙ e in let z : ◌≡◌ {A = ℕ} 0 1 = cc in absurd (omega arith)
+pub stored_is : (q : Bool) (x : Result (Unit {0}) Refusal) → outcome x ≡ need 1 q → is_err x ≡ false → q ≡ true
+stored_is true x e f = refl
+stored_is false (Ok a) e f = absurd (cc e)
+stored_is false (Err r) e f = absurd (cc f)
 
 row_as : {i j : ℕ} (t : Tables) → i ≡ j → ◌≡◌ {A = Step ℕ} (done (i, t)) (done (j, t))
 row_as t e = ap (λ (k : ℕ). done (k, t)) e
@@ -120,14 +122,14 @@ module _
           let d = named room t at h s in
           subst (λ (y : Named). NameTable y room.pool at d.after p₁) f d.table
 
-      module _ {x : RowStored} (ex : stored_of x ≡ need 1 (has_row b₀ used)) where
-        pub bone_no_room : (b : List ℕ) → x ≡ NoRoom → BoneFrom sec bytes va used (Refused TableTooShort) b₀ b p₀ p₁
+      module _ (x : Result (Unit {0}) Refusal) (ex : outcome x ≡ need 1 (has_row b₀ used)) where
+        pub bone_no_room : (b : List ℕ) → is_err x ≡ true → BoneFrom sec bytes va used (Refused TableTooShort) b₀ b p₀ p₁
         unfolding bone_from
         bone_no_room b g =
             record {
               reads =
                   λ room t at h s.
-                  let l = lacks_row_le b₀ used (stored_not (has_row b₀ used) ex g) in
+                  let l = lacks_row_le b₀ used (stored_not (has_row b₀ used) x ex g) in
                   let k : room.bones ≤ length t.bones = omega (arith, h.count, h.lent.rows.size) in
                   record {
                     bones = t.bones;
@@ -137,10 +139,10 @@ module _
                   };
             }
 
-        module _ (g : x ≡ row_done) {s : Stored} {p : List ℕ} (w : Stores (pool_row va bone used 1) s p₁ p) where
+        module _ (g : is_err x ≡ false) {s : Stored} {p : List ℕ} (w : Stores (pool_row va bone used 1) s p₁ p) where
           room-left : (room : Room) (t : Tables) (at : ℕ) → Before room t at used b₀ p₀ → length t.bones < room.bones
           room-left room t at h =
-              let l = has_row_lt b₀ used (stored_is (has_row b₀ used) ex g) in
+              let l = has_row_lt b₀ used (stored_is (has_row b₀ used) x ex g) in
               omega (arith, h.count, h.lent.rows.size)
 
           pub bone-full : (b : List ℕ) → s ≡ Full → BoneFrom sec bytes va used (Refused TableTooShort) b₀ b p₀ p
@@ -186,7 +188,7 @@ module _
                       (ey ∙ row_of-bytes bytes pl stands.0)
                       in
                       let has : has_row b₀ (length t.bones) ≡ true =
-                      ap (λ (k : ℕ). has_row b₀ k) (sym h.count) ∙ stored_is (has_row b₀ used) ex g
+                      ap (λ (k : ℕ). has_row b₀ k) (sym h.count) ∙ stored_is (has_row b₀ used) x ex g
                       in
                       record {
                         bones = t.bones ++ (new ∷ []);

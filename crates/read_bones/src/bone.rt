@@ -70,9 +70,9 @@ fn words3(b: &[u8], at: usize) -> Words3
     ensures { meant_words3 result ≡ words_at3 b.now at }
 {
     Words3 {
-        x: fields::u32_at(b, at),
-        y: fields::u32_at(b, at + 4),
-        z: fields::u32_at(b, at + 8),
+        x: fields::read::<u32>(b, at),
+        y: fields::read::<u32>(b, at + 4),
+        z: fields::read::<u32>(b, at + 8),
     }
 }
 
@@ -81,10 +81,10 @@ fn words4(b: &[u8]) -> Words4
     ensures { meant_words4 result ≡ words_at4 b.now }
 {
     Words4 {
-        x: fields::u32_at(b, 0),
-        y: fields::u32_at(b, 4),
-        z: fields::u32_at(b, 8),
-        w: fields::u32_at(b, 12),
+        x: fields::read::<u32>(b, 0),
+        y: fields::read::<u32>(b, 4),
+        z: fields::read::<u32>(b, 8),
+        w: fields::read::<u32>(b, 12),
     }
 }
 
@@ -96,12 +96,12 @@ fn bone_in(b: &[u8], name: Place) -> Bone
         rotation: words4(b),
         translation: words3(b, 16),
         scale: words3(b, 32),
-        next_sibling: fields::u16_at(b, 48),
-        parent: fields::u16_at(b, 50),
+        next_sibling: fields::read::<u16>(b, 48),
+        parent: fields::read::<u16>(b, 50),
         name: name,
-        flags: fields::u16_at(b, 64),
-        index: fields::u16_at(b, 66),
-        tag: fields::u16_at(b, 68),
+        flags: fields::read::<u16>(b, 64),
+        index: fields::read::<u16>(b, 66),
+        tag: fields::read::<u16>(b, 68),
         kept: Words4 {
             x: 0,
             y: 0,
@@ -126,11 +126,10 @@ fn bone_from(
     ensures { BoneFrom (section sys.now gfx.now)
         b.now va used result bones.old bones.new pool.old pool.new }
 {
-    let n = read_name(sys, gfx, fields::u64_at(b, 56), pool);
+    let n = read_name(sys, gfx, fields::read::<u64>(b, 56), pool);
     match n {
         Named::At(p) => {
-            let s = rows::put_bone(bones, used, bone_in(b, p));
-            if let rows::RowStored::NoRoom = s {
+            if rows::put_bone(bones, used, bone_in(b, p)).is_err() {
                 return Row::Refused(Refusal::TableTooShort);
             }
             let i = pool::place(pool, va);

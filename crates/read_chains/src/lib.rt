@@ -107,7 +107,7 @@ fn read_pointers(
     let mut taken = used;
     let mut i = 0;
     while i < bytes.len() / POINTER {
-        let va = fields::u64_at(bytes, POINTER * i);
+        let va = fields::read::<u64>(bytes, POINTER * i);
         let s = read_bucket(sys, gfx, va, buckets, row, entries, taken, pool);
         match s {
             Stretch::Done(b, e) => {

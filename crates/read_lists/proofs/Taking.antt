@@ -41,7 +41,7 @@ takes-stored w {m} {room} {used} t₀ n h e =
 -- m words of k bytes, loaded as a run
 pub takes-loaded :
     (k m : ℕ) (s : List ℕ) (at : ℕ) {room used : ℕ} (t₀ : List ℕ) {t : List ℕ} → at + k * m ≤ length s → used + m ≤ room →
-    room ≤ length t₀ → t ≡ loaded k m s at t₀ used → Takes (words k m (drop at s)) room used (At used m (used + m)) t₀ t
+    room ≤ length t₀ → t ≡ loaded (λ l. l) k m s at t₀ used → Takes (words k m (drop at s)) room used (At used m (used + m)) t₀ t
 takes-loaded k m s at {room} {used} t₀ h l r e =
     takes-stored (words k m (drop at s)) t₀ (length-words k m (drop at s)) l
     (e ∙ loaded-stands k m s at t₀ used h (omega arith))

@@ -42,22 +42,22 @@ fn header_in(b: &[u8]) -> Header
     ensures { meant_header result ≡ header_in b.now }
 {
     Header {
-        kind: fields::u32_at(b, 0),
-        buckets_at: fields::u64_at(b, 16),
-        bucket_count: fields::u16_at(b, 24),
+        kind: fields::read::<u32>(b, 0),
+        buckets_at: fields::read::<u64>(b, 16),
+        bucket_count: fields::read::<u16>(b, 24),
         free: Words4 {
-            x: fields::u32_at(b, 28),
-            y: fields::u32_at(b, 80),
-            z: fields::u32_at(b, 84),
-            w: fields::u32_at(b, 88),
+            x: fields::read::<u32>(b, 28),
+            y: fields::read::<u32>(b, 80),
+            z: fields::read::<u32>(b, 84),
+            w: fields::read::<u32>(b, 88),
         },
-        bones_at: fields::u64_at(b, 32),
-        inverse_at: fields::u64_at(b, 40),
-        local_at: fields::u64_at(b, 48),
-        parents_at: fields::u64_at(b, 56),
-        children_at: fields::u64_at(b, 64),
-        bone_count: fields::u16_at(b, 94),
-        child_count: fields::u16_at(b, 96),
+        bones_at: fields::read::<u64>(b, 32),
+        inverse_at: fields::read::<u64>(b, 40),
+        local_at: fields::read::<u64>(b, 48),
+        parents_at: fields::read::<u64>(b, 56),
+        children_at: fields::read::<u64>(b, 64),
+        bone_count: fields::read::<u16>(b, 94),
+        child_count: fields::read::<u16>(b, 96),
     }
 }
 

@@ -120,7 +120,7 @@ const ROW: u16 = 3;
 pub(crate) fn rotation_read_agrees(case: &[u8]) -> bool {
     let words = replay_sample::loaded32(replay_sample::part(case, RECORD));
     let mut bytes = [0u8; 192];
-    runs::put_words(&mut bytes, 0, &words[0..48]);
+    let _ = runs::put(&mut bytes, 0, &words[0..48]);
     let row = joints::limits::read_rotation(&bytes);
     replay_sample::same32(&row, replay_sample::part(case, ROW))
 }
@@ -128,7 +128,7 @@ pub(crate) fn rotation_read_agrees(case: &[u8]) -> bool {
 pub(crate) fn translation_read_agrees(case: &[u8]) -> bool {
     let words = replay_sample::loaded32(replay_sample::part(case, RECORD));
     let mut bytes = [0u8; 64];
-    runs::put_words(&mut bytes, 0, &words[0..16]);
+    let _ = runs::put(&mut bytes, 0, &words[0..16]);
     let row = joints::limits::read_translation(&bytes);
     replay_sample::same32(&row, replay_sample::part(case, ROW))
 }
@@ -160,7 +160,7 @@ fn write_translation_into(row: &[u32; 16], n: usize, out: &mut [u8]) -> RecordWr
 pub(crate) fn rotation_write_agrees(case: &[u8], n: usize, answer: u32) -> bool {
     let words = replay_sample::loaded32(replay_sample::part(case, WRITTEN_ROW));
     let mut row = [0u32; 49];
-    runs::copy_words(&words, 0, 49, &mut row, 0);
+    row.copy_from_slice(&words[..49]);
     let mut out = buffers::dirty8();
     let w = write_rotation_into(&row, n, &mut out);
     buffers::all(
@@ -174,7 +174,7 @@ pub(crate) fn rotation_write_agrees(case: &[u8], n: usize, answer: u32) -> bool 
 pub(crate) fn translation_write_agrees(case: &[u8], n: usize, answer: u32) -> bool {
     let words = replay_sample::loaded32(replay_sample::part(case, WRITTEN_ROW));
     let mut row = [0u32; 16];
-    runs::copy_words(&words, 0, 16, &mut row, 0);
+    row.copy_from_slice(&words[..16]);
     let mut out = buffers::dirty8();
     let w = write_translation_into(&row, n, &mut out);
     buffers::all(

@@ -57,8 +57,8 @@ fn replay_next(
     if input::read_full(reader, &mut bytes[..head])? < HEAD {
         return Ok(false);
     }
-    let number = fields::u32_at(bytes, 0);
-    let size = fields::u32_at(bytes, 4) as usize;
+    let number = fields::read::<u32>(bytes, 0);
+    let size = fields::read::<u32>(bytes, 4) as usize;
     let room = replay_sample::within8(size, bytes);
     if input::read_full(reader, &mut bytes[..room])? < size {
         return Ok(false);
@@ -71,8 +71,8 @@ fn replay_next(
 fn replay_case(rt: &impl Print, number: u32, case: &[u8], counts: &mut [u32]) -> io::Result<()> {
     let runs = replay_sample::part(case, RUNS);
     let call = replay_sample::part(case, CALL);
-    let a = fields::u64_at(call, 0);
-    let b = fields::u64_at(call, 8);
+    let a = fields::read::<u64>(call, 0);
+    let b = fields::read::<u64>(call, 8);
     let n = runs.len() / 4;
     let mut i = 0;
     while i < n {

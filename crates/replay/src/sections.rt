@@ -153,7 +153,7 @@ fn looked_as(r: Looked, answer: u32, position: u32) -> bool {
 
 pub(crate) fn lookup_agrees(case: &[u8], root: u64, answer: u32) -> bool {
     let others = replay_sample::part(case, OTHERS);
-    let tag = fields::u16_at(others, 4 * TAG);
+    let tag = fields::read::<u16>(others, 4 * TAG);
     let r = lookup::lookup(
         replay_sample::part(case, SYSTEM),
         replay_sample::part(case, GRAPHICS),

@@ -16,11 +16,11 @@ pub fn part<'a>(case: &'a [u8], k: u16) -> &'a [u8]
     ensures part { result.now ≡ part_of k case.now }
 {
     let at = 4 * (k as usize);
-    if fields::u32_at(case, 0) as usize <= at + 4 {
+    if fields::read::<u32>(case, 0) as usize <= at + 4 {
         return &case[..0];
     }
-    let from = fields::u32_at(case, at) as usize;
-    let to = fields::u32_at(case, at + 4) as usize;
+    let from = fields::read::<u32>(case, at) as usize;
+    let to = fields::read::<u32>(case, at + 4) as usize;
     if to < from {
         return &case[..0];
     }
@@ -36,7 +36,7 @@ fn number16(e: &[u8], i: usize) -> u16
     ensures { result ≡ get_or (numbers 2 e.now) i 0 }
 {
     if i < e.len() / 2 {
-        return fields::u16_at(e, 2 * i);
+        return fields::read::<u16>(e, 2 * i);
     }
     0
 }
@@ -45,7 +45,7 @@ pub fn number32(e: &[u8], i: usize) -> u32
     ensures answer { result ≡ get_or (numbers 4 e.now) i 0 }
 {
     if i < e.len() / 4 {
-        return fields::u32_at(e, 4 * i);
+        return fields::read::<u32>(e, 4 * i);
     }
     0
 }
@@ -54,7 +54,7 @@ fn number64(e: &[u8], i: usize) -> u64
     ensures { result ≡ get_or (numbers 8 e.now) i 0 }
 {
     if i < e.len() / 8 {
-        return fields::u64_at(e, 8 * i);
+        return fields::read::<u64>(e, 8 * i);
     }
     0
 }

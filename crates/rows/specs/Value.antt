@@ -5,15 +5,12 @@ use Rattle.math.specs.Word.{float_of}
 use Rattle.math.specs.Vector.{vec3, vec4}
 use Rattle.math.specs.declared.Vec3.{Vec3}
 use Rattle.math.specs.declared.Vec4.{Vec4}
-use Rattle.format.specs.Result.{Res, refused, done}
 use Rattle.format.specs.Section as section
 use Rattle.format.specs.Bone as format
 use Rattle.format.specs.Rows.{place_of}
 use Rattle.format.specs.Words.{our_words3, our_words4, meant_words3, meant_words4}
 use Rattle.format.specs.declared.Place.{Place}
 use Rattle.rows.specs.declared.Bone.{Bone}
-use Rattle.rows.specs.declared.RowStored.{RowStored}
-use Rattle.rows.specs.declared.RowStored.TheVariants.{Done, NoRoom}
 
 -- ---- from the format
 
@@ -61,10 +58,3 @@ vec3_of v = vec3 (float_of v.x) (float_of v.y) (float_of v.z)
 
 abbrev pub vec4_of : format.Words4 → Vec4
 vec4_of v = vec4 (float_of v.x) (float_of v.y) (float_of v.z) (float_of v.w)
-
--- ---- answers
-
--- whether a row is stored, or the refusal's number
-abbrev pub stored_of : RowStored → Res (Unit {0})
-stored_of Done = done tt
-stored_of NoRoom = refused 1

@@ -1,18 +1,18 @@
 // A bone's row in a lent table of 32-bit words (docs/FORMAT.md, "Records"; the words of a row stand in `format`, Rows.antt).
 // Every table and position has an answer: words that the table lacks read as 0.
-#![tactic(auto)]
+#![tactic(auto, unfolding(format::specs::Rows::bone_of, format::specs::Rows::place_of, crate::specs::Value::our_bone))]
 
 ghost use Rattle.std.specs.Prelude.{◌≡◌, ◌+◌, ◌*◌, ◌/◌, ◌%◌, ◌^◌, ◌≤◌, length, get_or};
 ghost use Rattle.std.proofs.lemmas.List.Edits.{sets};
 ghost use Rattle.math.specs.Word.{float_of};
 ghost use Rattle.format.specs.Result.{need};
+ghost use Rattle.format.specs.Refusal.{outcome};
 ghost use Rattle.format.specs.Rows.{pair, lower, upper, bone_width, bone_words, place_of};
 ghost use Rattle.rows.specs.Row.{row_words, row_at, words3_from, words4_from, has_row, put_row};
-ghost use Rattle.rows.specs.Value.{our_place, our_bone, meant_bone, vec3_of, vec4_of, stored_of};
+ghost use Rattle.rows.specs.Value.{our_place, our_bone, meant_bone, vec3_of, vec4_of};
 ghost use Rattle.format.specs.Words.{our_words3, our_words4};
 
-use fields::runs;
-use format::{BONE_WORDS, Place, Words3, Words4};
+use format::{BONE_WORDS, Place, Refusal, Words3, Words4};
 use math::{Vec3, Vec4, float_of};
 
 // A bone as its row holds it. Signed 16-bit numbers are their patterns, negative from 32768 on.
@@ -32,67 +32,53 @@ pub struct Bone {
     pub kept: Words4,
 }
 
-// Whether a row was stored.
-#[derive(Clone, Copy)]
-pub enum RowStored {
-    Done,
-    // the row does not lie in the table
-    NoRoom,
-}
-
 // ---- words
 
 fn lower_half(w: u32) -> u16
     ensures answer { result ≡ lower w }
 {
-    (w % 65536) as u16
+    (w & 0xffff) as u16
 }
 
 fn upper_half(w: u32) -> u16
     ensures answer { result ≡ upper w }
 {
-    (w / 65536) as u16
+    (w >> 16) as u16
 }
 
 // Two 16-bit fields in one word, the first in the lower half.
 fn both_halves(lo: u16, hi: u16) -> u32
     ensures answer { result ≡ pair lo hi }
 {
-    lo as u32 + 65536 * (hi as u32)
+    u32::from(lo) | u32::from(hi) << 16
 }
 
 fn lower_word(v: u64) -> u32
     ensures answer { result ≡ v % 2 ^ 32 }
 {
-    (v % 0x1_0000_0000) as u32
+    (v & 0xffff_ffff) as u32
 }
 
 fn upper_word(v: u64) -> u32
     ensures answer { result ≡ v / 2 ^ 32 }
 {
-    (v / 0x1_0000_0000) as u32
+    (v >> 32) as u32
 }
 
 // A 64-bit number of its two words, the lower first.
 fn both_words(lo: u32, hi: u32) -> u64
     ensures answer { result ≡ lo + 2 ^ 32 * hi }
 {
-    lo as u64 + 0x1_0000_0000 * (hi as u64)
+    u64::from(lo) | u64::from(hi) << 32
 }
 
 // The place at an address; the size of no name is 0.
 fn place_of(address: u64, size: u64) -> Place
     ensures answer { result ≡ our_place (place_of address size) }
 {
-    if address == 0 {
-        return Place {
-            address: 0,
-            size: 0,
-        };
-    }
     Place {
-        address: address,
-        size: size,
+        address,
+        size: if address == 0 { 0 } else { size },
     }
 }
 
@@ -105,11 +91,8 @@ pub fn word_at(t: &[u32], p: usize, i: usize) -> u32
     if p > t.len() / BONE_WORDS {
         return 0;
     }
-    let start = BONE_WORDS * p;
-    if i < t.len() - start {
-        return t[start + i];
-    }
-    0
+    let row = &t[BONE_WORDS * p..];
+    row.get(i).copied().unwrap_or(0)
 }
 
 // The float that word i of row p stands for.
@@ -244,7 +227,7 @@ pub fn bone_at(t: &[u32], p: usize) -> Bone
 // ---- storing a row
 
 // The words of a bone's row.
-fn bone_words(b: Bone) -> [u32; 21]
+fn bone_words(b: Bone) -> [u32; BONE_WORDS]
     ensures answer { result ≡ bone_words (meant_bone b) }
 {
     let n = place_of(b.name.address, b.name.size);
@@ -261,7 +244,7 @@ fn bone_words(b: Bone) -> [u32; 21]
         b.scale.z,
         both_halves(b.next_sibling, b.parent),
         both_halves(b.flags, b.index),
-        b.tag as u32,
+        u32::from(b.tag),
         b.kept.x,
         b.kept.y,
         b.kept.z,
@@ -274,14 +257,13 @@ fn bone_words(b: Bone) -> [u32; 21]
 }
 
 // Stores the bone as row p, the free half of word 12 as 0. Where the row does not lie in the table, the table stays as it was.
-pub fn put_bone(t: &mut [u32], p: usize, b: Bone) -> RowStored
-    ensures answer { stored_of result ≡ need 1 (has_row t.old p) }
+pub fn put_bone(t: &mut [u32], p: usize, b: Bone) -> Result<(), Refusal>
+    ensures answer { outcome result ≡ need 1 (has_row t.old p) }
     ensures rows { t.new ≡ put_row t.old p (meant_bone b) }
 {
     if p >= t.len() / BONE_WORDS {
-        return RowStored::NoRoom;
+        return Err(Refusal::TableTooShort);
     }
-    let w = bone_words(b);
-    runs::copy_words(&w, 0, BONE_WORDS, t, BONE_WORDS * p);
-    RowStored::Done
+    t[BONE_WORDS * p..BONE_WORDS * (p + 1)].copy_from_slice(&bone_words(b));
+    Ok(())
 }

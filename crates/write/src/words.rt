@@ -14,7 +14,7 @@ pub(crate) fn put_words(d: &mut [u8], at: usize, w: &[u32])
     requires { at + 4 * length w.now ≤ length d.old }
     ensures bytes { d.new ≡ sets d.old at (word_bytes 4 w.now) }
 {
-    runs::put_words(d, at, w);
+    let _ = runs::put(d, at, w);
 }
 
 // 16-bit numbers, two bytes for each.
@@ -22,7 +22,7 @@ pub(crate) fn put_halves(d: &mut [u8], at: usize, h: &[u16])
     requires { at + 2 * length h.now ≤ length d.old }
     ensures bytes { d.new ≡ sets d.old at (word_bytes 2 h.now) }
 {
-    runs::put_halves(d, at, h);
+    let _ = runs::put(d, at, h);
 }
 
 // k bytes, those of s from `from` on.

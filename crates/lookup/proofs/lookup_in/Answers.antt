@@ -30,13 +30,13 @@ overflow_add-o-in-Graphics c =
 pub returns-in-System : goal.returns-in-System
 returns-in-System c =
     c.follow.ensures
-    ∙ array-system _ _ _ c.if-va-eq0.false c.if-c-eq0.false c.locate.ensures.answer c.in-System.is c.u64_at-first.ensures.answer
+    ∙ array-system _ _ _ c.if-va-eq0.false c.if-c-eq0.false c.locate.ensures.answer c.in-System.is c.read-first.ensures.answer
 
 pub returns-in-Graphics : goal.returns-in-Graphics
 returns-in-Graphics c =
     c.follow-in-Graphics.ensures
     ∙ array-graphics _ _ _ c.if-va-eq0.false c.if-c-eq0.false c.locate.ensures.answer c.in-Graphics.is
-    c.u64_at-first-in-Graphics.ensures.answer
+    c.read-first-in-Graphics.ensures.answer
 
 pub returns-in-Refused : goal.returns-in-Refused
 returns-in-Refused c =

@@ -7,13 +7,13 @@ loop-i-init c = bucketing_none _ _ _ _ _ _ _
 
 pub loop-i-preserved : goal.loop-i-preserved
 loop-i-preserved c =
-    bucketing_more c.loop-i.invariant c.loop-i-test.true c.u64_at-va.ensures.answer c.read_bucket-s.ensures c.in-Done.is
+    bucketing_more c.loop-i.invariant c.loop-i-test.true c.read-va.ensures.answer c.read_bucket-s.ensures c.in-Done.is
     c.read_bucket-s.auto.buckets c.read_bucket-s.auto.entries
     c.read_bucket-s.auto.pool
 
 pub returns-in-Refused : goal.returns-in-Refused
 returns-in-Refused c =
-    bucketing_lost c.loop-i.invariant c.loop-i-test.true c.u64_at-va.ensures.answer c.read_bucket-s.ensures c.in-Refused.is
+    bucketing_lost c.loop-i.invariant c.loop-i-test.true c.read-va.ensures.answer c.read_bucket-s.ensures c.in-Refused.is
 
 pub returns : goal.returns
 returns c = bucketing_all c.loop-i.invariant c.loop-i-test.false

@@ -1,15 +1,12 @@
 -- `rows::put_bone` meets its contract. Assumes nothing.
-use mathlib.Core.Path.{◌≡◌}
-use lib.ListN.{length}
-use Rattle.rows.proofs.Storing.{put_refused, put-done}
+use mathlib.Core.Path.{sym}
+use Rattle.rows.proofs.Storing.{lacks_row, put-no_row, put-done}
 use borrow.Author.Rules.{rules}
 use Rattle.rows.proofs.put_bone.Goals as goal
 
-pub returns-then-p-t : goal.returns-then-p-t
-returns-then-p-t c = let all = put_refused c.args.t.now c.args.p _ c.if-p-t.true in record { answer = all.0; rows = all.1 }
+pub returns-then-p-t-clause-rows : goal.returns-then-p-t-clause-rows
+returns-then-p-t-clause-rows c = sym (put-no_row c.args.t.now c.args.p _ (lacks_row c.args.t.now c.args.p c.if-p-t.true))
 
-pub returns : goal.returns
-returns c =
-    let n : length c.bone_words-w.result ≡ 21 = search rules in let all =
-    put-done c.args.t.now c.args.p _ c.if-p-t.false n c.bone_words-w.ensures.answer c.copy_words.ensures.table in record
-    { answer = all.0; rows = all.1 }
+pub returns-clause-rows : goal.returns-clause-rows
+returns-clause-rows c =
+    put-done c.args.t.now c.args.p _ c.if-p-t.false c.bone_words.ensures.answer (search rules) c.copy_from_slice.ensures.after

@@ -21,11 +21,11 @@ returns-then-stands c =
       answer =
           λ i. record {
             x = word-inside 12 c.args.s.now c.args.at c.stands.ensures.answer c.args.at c.if-stands.true (omega arith)
-                c.u32_at.ensures.answer i;
+                c.read.ensures.answer i;
             y = word-inside 12 c.args.s.now c.args.at c.stands.ensures.answer (c.args.at + 4) c.if-stands.true (omega arith)
-                c.u32_at-then-stands.ensures.answer i;
+                c.read-then-stands.ensures.answer i;
             z = word-inside 12 c.args.s.now c.args.at c.stands.ensures.answer (c.args.at + 8) c.if-stands.true (omega arith)
-                c.u32_at-then-stands-2.ensures.answer i;
+                c.read-then-stands-2.ensures.answer i;
           };
     }
 

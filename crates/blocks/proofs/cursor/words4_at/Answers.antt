@@ -25,13 +25,13 @@ returns-then-stands c =
       answer =
           λ i. record {
             x = word-inside 16 c.args.s.now c.args.at c.stands.ensures.answer c.args.at c.if-stands.true (omega arith)
-                c.u32_at.ensures.answer i;
+                c.read.ensures.answer i;
             y = word-inside 16 c.args.s.now c.args.at c.stands.ensures.answer (c.args.at + 4) c.if-stands.true (omega arith)
-                c.u32_at-then-stands.ensures.answer i;
+                c.read-then-stands.ensures.answer i;
             z = word-inside 16 c.args.s.now c.args.at c.stands.ensures.answer (c.args.at + 8) c.if-stands.true (omega arith)
-                c.u32_at-then-stands-2.ensures.answer i;
+                c.read-then-stands-2.ensures.answer i;
             w = word-inside 16 c.args.s.now c.args.at c.stands.ensures.answer (c.args.at + 12) c.if-stands.true (omega arith)
-                c.u32_at-then-stands-3.ensures.answer i;
+                c.read-then-stands-3.ensures.answer i;
           };
     }
 

@@ -1,14 +1,8 @@
--- `derive_matrices::matrices::put_matrix` meets its contract: the run stands. Assumes nothing.
+-- `derive_matrices::matrices::put_matrix` meets its contract. Assumes nothing.
 use borrow.Author.Rules.{rules}
-use mathlib.Core.Path.{◌≡◌, ◌∙◌}
-use lib.ListN.{length}
-use Rattle.fields.proofs.RunLaws.{copied-whole}
+use Rattle.fields.proofs.Stores.{written-over}
 use Rattle.derive_matrices.proofs.matrices.put_matrix.Goals as goal
 
 pub returns : goal.returns
 returns c =
-    record {
-      rows =
-          let n : length c.args.w ≡ 16 = search rules in
-          c.copy_words.ensures.table ∙ copied-whole 16 c.args.w c.args.t.now c.args.at n c.requires;
-    }
+    record { rows = written-over 16 c.args.t.now c.args.at c.args.w (search rules) c.requires c.copy_from_slice.ensures.after }

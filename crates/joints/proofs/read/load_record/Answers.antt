@@ -4,6 +4,6 @@ use Rattle.joints.proofs.read.load_record.Goals as goal
 
 pub returns : goal.returns
 returns c =
-    record_loaded c.args.s.now c.args.at c.requires c.u32_at.ensures.answer
-    c.u64_at.ensures.answer
-    c.u64_at-2.ensures.answer c.u16_at.ensures.answer c.u16_at-2.ensures.answer
+    record_loaded c.args.s.now c.args.at c.requires c.read.ensures.answer
+    c.read-2.ensures.answer
+    c.read-3.ensures.answer c.read-4.ensures.answer c.read-5.ensures.answer

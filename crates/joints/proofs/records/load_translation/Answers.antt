@@ -10,14 +10,14 @@ load_bounds-requires c =
 
 pub translation_others-requires : goal.translation_others-requires
 translation_others-requires c =
-    let l = bounds_kept 5 1 1 c.args.s.now c.args.t.now c.args.to c.u32_at.result c.load_bounds.ensures in
+    let l = bounds_kept 5 1 1 c.args.s.now c.args.t.now c.args.to c.read.result c.load_bounds.ensures in
     (c.requires.0, omega (arith, c.requires, l))
 
 pub shape_of-t : goal.shape_of-t
 shape_of-t c =
-    others-kept 5 1 1 c.args.s.now c.args.t.now c.args.to c.u32_at.result c.load_bounds.ensures c.translation_others.ensures
+    others-kept 5 1 1 c.args.s.now c.args.t.now c.args.to c.read.result c.load_bounds.ensures c.translation_others.ensures
 
 pub returns : goal.returns
 returns c =
-    translation_row_lem c.args.s.now c.args.t.now c.args.to c.requires.0 c.u32_at.ensures.answer c.load_bounds.ensures
+    translation_row_lem c.args.s.now c.args.t.now c.args.to c.requires.0 c.read.ensures.answer c.load_bounds.ensures
     c.translation_others.ensures

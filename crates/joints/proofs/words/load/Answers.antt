@@ -5,5 +5,5 @@ use Rattle.joints.proofs.words.load.Goals as goal
 
 pub returns : goal.returns
 returns c =
-    c.load_words.ensures.table
+    c.load.ensures.table
     ∙ loaded-stands 4 c.args.n c.args.s.now c.args.from c.args.t.now c.args.to c.requires.0 c.requires.1

@@ -5,4 +5,4 @@ use Rattle.joints.proofs.words.store.Goals as goal
 
 pub returns : goal.returns
 returns c =
-    c.put_words.ensures.bytes ∙ part-stored 4 c.args.n c.args.t.now c.args.from c.args.d.now c.args.at c.requires.0 c.requires.1
+    c.put.ensures.bytes ∙ part-stored 4 c.args.n c.args.t.now c.args.from c.args.d.now c.args.at c.requires.0 c.requires.1

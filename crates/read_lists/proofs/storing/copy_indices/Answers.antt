@@ -29,5 +29,5 @@ returns c =
     record {
       list =
           copies-done c.args.other.now (past_false _ _ _ c.runs_past-2.ensures c.if-runs_past-2.false)
-          (past_false _ _ _ c.runs_past.ensures c.if-runs_past.false) (omega arith) c.copy_halves.ensures.table;
+          (past_false _ _ _ c.runs_past.ensures c.if-runs_past.false) (omega arith) c.copy.ensures.table;
     }

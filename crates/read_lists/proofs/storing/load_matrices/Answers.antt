@@ -22,4 +22,4 @@ overflow_add-result c =
 pub returns : goal.returns
 returns c =
     takes-loaded 4 (16 * c.args.n) c.args.s.now c.args.at c.args.own.now c.requires
-    (past_false _ _ _ c.runs_past.ensures c.if-runs_past.false) (omega arith) c.load_words.ensures.table
+    (past_false _ _ _ c.runs_past.ensures c.if-runs_past.false) (omega arith) c.load.ensures.table

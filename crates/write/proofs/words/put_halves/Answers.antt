@@ -7,5 +7,5 @@ pub returns : goal.returns
 returns c =
     record {
       bytes =
-          c.put_halves.ensures.bytes ∙ stored-stands 2 c.args.h.now c.args.d.now c.args.at c.requires;
+          c.put.ensures.bytes ∙ stored-stands 2 c.args.h.now c.args.d.now c.args.at c.requires;
     }

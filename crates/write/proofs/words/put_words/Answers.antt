@@ -7,5 +7,5 @@ pub returns : goal.returns
 returns c =
     record {
       bytes =
-          c.put_words.ensures.bytes ∙ stored-stands 4 c.args.w.now c.args.d.now c.args.at c.requires;
+          c.put.ensures.bytes ∙ stored-stands 4 c.args.w.now c.args.d.now c.args.at c.requires;
     }

@@ -1,7 +1,0 @@
--- `rows::translation_at` meets its contract. Assumes nothing.
-use Rattle.format.specs.Rows.{bone_of}
-use Rattle.rows.proofs.translation_at.Goals as goal
-
-pub returns : goal.returns
-unfolding bone_of
-returns c = record { answer = cc }

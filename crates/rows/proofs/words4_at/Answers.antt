@@ -1,5 +1,0 @@
--- `rows::words4_at` meets its contract: each word is what its reading ensures. Assumes nothing.
-use Rattle.rows.proofs.words4_at.Goals as goal
-
-pub returns : goal.returns
-returns c = record { answer = cc }
