@@ -68,7 +68,7 @@ fn load_matrices(s: &[u8], at: usize, n: usize, own: &mut [u32], used: usize) ->
     if runs_past(room, used, m) {
         return Listed::Refused(Refusal::TableTooShort);
     }
-    let _ = runs::load(s, at, m, own, used);
+    let _ = runs::load::<u32>(s, at, m, own, used);
     Listed::At(used, m, used + m)
 }
 
@@ -81,7 +81,7 @@ fn load_indices(s: &[u8], at: usize, m: usize, own: &mut [u16], used: usize) -> 
     if runs_past(own.len(), used, m) {
         return Listed::Refused(Refusal::TableTooShort);
     }
-    let _ = runs::load(s, at, m, own, used);
+    let _ = runs::load::<u16>(s, at, m, own, used);
     Listed::At(used, m, used + m)
 }
 
@@ -103,7 +103,7 @@ pub fn copy_matrices(
     if runs_past(other.len(), first, count) {
         return Listed::Refused(Refusal::TableTooShort);
     }
-    let _ = runs::copy(other, first, count, own, used);
+    let _ = runs::copy::<u32>(other, first, count, own, used);
     Listed::At(used, count, used + count)
 }
 
@@ -124,6 +124,6 @@ pub fn copy_indices(
     if runs_past(other.len(), first, count) {
         return Listed::Refused(Refusal::TableTooShort);
     }
-    let _ = runs::copy(other, first, count, own, used);
+    let _ = runs::copy::<u16>(other, first, count, own, used);
     Listed::At(used, count, used + count)
 }

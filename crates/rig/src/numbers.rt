@@ -32,7 +32,7 @@ pub extern "C" fn rig_put16(d: &mut [u8], at: usize, v: u16) -> bool
     ensures answer { result ≡ stands 2 d.old at }
     ensures slice { d.new ≡ put_at 2 d.old at v }
 {
-    fields::put(d, at, v).is_ok()
+    fields::put::<u16>(d, at, v).is_ok()
 }
 
 #[unsafe(no_mangle)]
@@ -40,7 +40,7 @@ pub extern "C" fn rig_put32(d: &mut [u8], at: usize, v: u32) -> bool
     ensures answer { result ≡ stands 4 d.old at }
     ensures slice { d.new ≡ put_at 4 d.old at v }
 {
-    fields::put(d, at, v).is_ok()
+    fields::put::<u32>(d, at, v).is_ok()
 }
 
 #[unsafe(no_mangle)]
@@ -48,5 +48,5 @@ pub extern "C" fn rig_put64(d: &mut [u8], at: usize, v: u64) -> bool
     ensures answer { result ≡ stands 8 d.old at }
     ensures slice { d.new ≡ put_at 8 d.old at v }
 {
-    fields::put(d, at, v).is_ok()
+    fields::put::<u64>(d, at, v).is_ok()
 }
