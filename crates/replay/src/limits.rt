@@ -160,7 +160,7 @@ fn write_translation_into(row: &[u32; 16], n: usize, out: &mut [u8]) -> RecordWr
 pub(crate) fn rotation_write_agrees(case: &[u8], n: usize, answer: u32) -> bool {
     let words = replay_sample::loaded32(replay_sample::part(case, WRITTEN_ROW));
     let mut row = [0u32; 49];
-    row.copy_from_slice(&words[..49]);
+    let _ = runs::copy(&words, 0, 49, &mut row, 0);
     let mut out = buffers::dirty8();
     let w = write_rotation_into(&row, n, &mut out);
     buffers::all(
@@ -174,7 +174,7 @@ pub(crate) fn rotation_write_agrees(case: &[u8], n: usize, answer: u32) -> bool 
 pub(crate) fn translation_write_agrees(case: &[u8], n: usize, answer: u32) -> bool {
     let words = replay_sample::loaded32(replay_sample::part(case, WRITTEN_ROW));
     let mut row = [0u32; 16];
-    row.copy_from_slice(&words[..16]);
+    let _ = runs::copy(&words, 0, 16, &mut row, 0);
     let mut out = buffers::dirty8();
     let w = write_translation_into(&row, n, &mut out);
     buffers::all(
