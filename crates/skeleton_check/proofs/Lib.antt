@@ -1,2 +1,2 @@
-pub mod Laying
+pub mod Lines
 pub mod Printing

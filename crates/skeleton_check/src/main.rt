@@ -2,27 +2,26 @@
 // section empty, and prints `ok` and the bone count, or `refused` and the number.
 #![tactic(auto)]
 
-mod line; // the line printed
+mod report; // the line printed
 
-ghost use Rattle.std.specs.Prelude.{◌≡◌, ◌≤◌, length, drop};
-ghost use Rattle.format.specs.Program.{printed};
+ghost use Rattle.std.specs.Prelude.{◌≡◌, Some};
+ghost use Rattle.format.specs.Refusal.{outcome};
+ghost use Rattle.format.specs.Program.{printed, report};
 
-use crate::line::put_report;
+use crate::report::Report;
 use format::Refusal;
-use std::io;
+use std::{fmt, io};
 
 // The longest section.
 const LONGEST: usize = 65536;
 
-// Puts the line for a section at the end of a buffer, and gives where it starts. The tables hold 800 bones, 8,192 buckets, 4,096
-// entries, 8,192 child entries and 8,192 pool rows.
-fn print_check(sys: &[u8], line: &mut [u8]) -> usize
-    requires { 14 ≤ length line.old }
-    ensures line { drop result line.new ≡ printed sys.now }
-    ensures place { result ≤ length line.old }
+// The bone count of a section that passes, none for root 0. The tables hold 800 bones, 8,192 buckets, 4,096 entries, 8,192 child entries and
+// 8,192 pool rows.
+fn check(sys: &[u8]) -> Result<Option<u16>, Refusal>
+    ensures line { report (outcome result) ≡ printed sys.now }
 {
     if sys.len() > LONGEST {
-        return put_report(Err(Refusal::TableTooShort), line);
+        return Err(Refusal::TableTooShort);
     }
     let gfx = [0u8; 1];
     let mut bones = [0u32; 16800];
@@ -40,7 +39,7 @@ fn print_check(sys: &[u8], line: &mut [u8]) -> usize
     let mut derived_parents = [0u16; 800];
     let mut derived_children = [0u16; 8192];
     let mut pending = [0u32; 6408];
-    let v = verify::check(
+    let count = verify::check(
         sys,
         &gfx[..0],
         format::SYSTEM_BASE,
@@ -59,14 +58,22 @@ fn print_check(sys: &[u8], line: &mut [u8]) -> usize
         &mut derived_parents,
         &mut derived_children,
         &mut pending,
-    );
-    put_report(v, line)
+    )?;
+    let Some(bones) = count else {
+        return Ok(None);
+    };
+    Ok(Some(bones as u16))
+}
+
+// What is printed for a section.
+fn print_check(sys: &[u8]) -> Report
+    ensures line { ⟦<Report as fmt::Display>⟧.output result ≡ Some (printed sys.now) }
+{
+    Report { answer: check(sys) }
 }
 
 fn main(rt: HostRuntime) -> io::Result<()> {
     let mut section = [0u8; 65537];
     let n = input::read_full(&mut rt.stdin(), &mut section)?;
-    let mut line = [0u8; 16];
-    let at = print_check(&section[..n], &mut line);
-    rt.write_all(&line[at..])
+    rt.print(print_check(&section[..n]))
 }
