@@ -14,8 +14,7 @@ use Rattle.format.specs.Chains.{bucket_count, entry_count, up_from}
 use Rattle.format.specs.Deriving.{EntryRow, entry_row}
 use Rattle.derive_chains.specs.ChainRows.{link_below, bucket_rows, entry_rows}
 use Rattle.format.specs.Rows.{entry_words, laid}
-use Rattle.derive_chains.specs.Tagging.{meant_entry, EntryIs, buckets_below, entries_below, TagEntered, TagsRoom, Linked}
-use Rattle.derive_chains.specs.declared.tags.TagEntry.{TagEntry}
+use Rattle.derive_chains.specs.Tagging.{buckets_below, entries_below, TagEntered, TagsRoom, Linked}
 use Rattle.derive_chains.proofs.Counts.{buckets_positive, entries_le}
 use Rattle.tables.proofs.Laid.{laid_none, laid_zeros, get_or-laid, set-laid, sets-laid}
 
@@ -139,14 +138,6 @@ bucket_rows_lem tags = all-heads tags (length tags)
 entry_rows_lem : (tags : List ℕ) → entry_rows tags ≡ entries_below tags (bucket_count (length tags)) (entry_count (length tags))
 unfolding entry_rows entries_below
 entry_rows_lem tags = refl
-
--- ---- one position, as the code enters it
-
-pub entered :
-    {tag tag' p c k : ℕ} {b e e' : List ℕ} {x : TagEntry} → tag ≡ tag' → k ≡ tag % c → EntryIs tag p (get_or b k 0) x
-    → e' ≡ sets e (3 * p) (entry_words (meant_entry x)) → TagEntered tag' p c b e (set b k (p + 1)) e'
-entered {tag} {tag'} {p} {c} {k} {b} t m i h =
-    record { bucket = rw (m, t, add-one); entry = h ∙ rw (i.tag_is, i.position_is, i.link_is, m, t) }
 
 -- ---- the loop
 

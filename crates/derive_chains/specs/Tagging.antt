@@ -3,14 +3,11 @@ use Rattle.std.specs.Prelude.{ℕ, suc, ◌*◌, ◌%◌, ◌≤◌, ◌≡◌, 
 use mathlib.Core.List.{List, map, flat_map}
 use Rattle.std.proofs.lemmas.List.Edits.{sets}
 use Rattle.format.specs.Result.{Res, refused, done}
-use Rattle.format.specs.Refusal.{number}
 use Rattle.format.specs.Chains.{bucket_count, entry_count, up_from}
 use Rattle.format.specs.Deriving.{EntryRow, entry_row}
 use Rattle.derive_chains.specs.ChainRows.{link_below, bucket_rows, entry_rows}
 use Rattle.format.specs.Rows.{bone_width, entry_words, laid, cleared}
 use Rattle.tables.specs.Outcome.{derived}
-use Rattle.derive_chains.specs.declared.tags.Tagged.{Tagged}
-use Rattle.derive_chains.specs.declared.tags.Tagged.TheVariants.{Done, Refused}
 use Rattle.derive_chains.specs.declared.tags.TagEntry.{TagEntry}
 
 -- ---- sizes and answer
@@ -24,22 +21,11 @@ tags_hold n bones buckets entries =
 abbrev pub tags_result : ℕ → ℕ → ℕ → ℕ → Res ℕ
 tags_result n bones buckets entries = derived n (tags_hold n bones buckets entries) (bucket_count n)
 
--- the code's answer as a result
-abbrev pub tagged_of : Tagged → Res ℕ
-tagged_of (Done count) = done count
-tagged_of (Refused r) = refused (number r)
-
 -- ---- positions entered
 
 -- the row that the code's entry stands for
 abbrev pub meant_entry : TagEntry → EntryRow
 meant_entry e = entry_row e.tag e.position e.link
-
--- an entry with its bone's tag, its position and its link
-pub record EntryIs (tag position link : ℕ) (e : TagEntry) : Type 0 where
-  pub tag_is : e.tag ≡ tag
-  pub position_is : e.position ≡ position
-  pub link_is : e.link ≡ link
 
 -- the bucket and entry rows of the positions below p, in c buckets
 unfoldable pub buckets_below : List ℕ → ℕ → ℕ → List ℕ

@@ -4,6 +4,7 @@ ghost use Rattle.format.specs.Chains.{num_hash_buckets, bucket_count, entry_coun
 
 // The first of the ladder greater than n, else 65521. Each answer has a branch of its own, so that a coverage report tells which answers
 // a run gave.
+#[tactic(auto, unfolding(format::specs::Chains::num_hash_buckets, format::specs::Chains::first_above, format::specs::Chains::ladder))]
 pub fn num_hash_buckets(n: usize) -> usize
     ensures answer { result ≡ num_hash_buckets n }
 {
@@ -59,6 +60,7 @@ pub fn num_hash_buckets(n: usize) -> usize
 }
 
 // How many buckets n bones have: none below two bones.
+#[tactic(auto, unfolding(format::specs::Chains::bucket_count))]
 pub fn bucket_count(n: usize) -> usize
     ensures answer { result ≡ bucket_count n }
 {
@@ -66,6 +68,7 @@ pub fn bucket_count(n: usize) -> usize
 }
 
 // How many entries n bones have: one for each of two or more.
+#[tactic(auto, unfolding(format::specs::Chains::entry_count))]
 pub fn entry_count(n: usize) -> usize
     ensures answer { result ≡ entry_count n }
 {

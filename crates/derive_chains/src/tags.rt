@@ -7,20 +7,14 @@ ghost use Rattle.format.specs.Deriving.{tags};
 ghost use Rattle.derive_chains.specs.ChainRows.{bucket_rows, entry_rows};
 ghost use Rattle.format.specs.Rows.{entry_words, bones_of};
 ghost use Rattle.rows.specs.Row.{row_at};
-ghost use Rattle.tables.specs.Outcome.{leaves, room_for, room_of};
-ghost use Rattle.derive_chains.specs.Tagging.{tags_hold, tags_result, tagged_of, meant_entry, EntryIs, TagEntered, TagsRoom, Linked};
+ghost use Rattle.tables.specs.Outcome.{leaves, room_for};
+ghost use Rattle.format.specs.Refusal.{outcome};
+ghost use Rattle.derive_chains.specs.Tagging.{tags_hold, tags_result, meant_entry, TagEntered, TagsRoom, Linked};
 
 use crate::buckets::{bucket_count, entry_count};
-use format::{ENTRY_WORDS, Refusal};
+use format::{BONE_WORDS, ENTRY_LINK, ENTRY_POSITION, ENTRY_TAG, ENTRY_WORDS, MOST, Refusal};
 use rows::tag_at;
-use tables::{TableRoom, clear32};
-
-// The answer: how many buckets there are.
-#[derive(Clone, Copy)]
-pub enum Tagged {
-    Done(usize),
-    Refused(Refusal),
-}
+use tables::clear;
 
 // A row of the entries table. `link` is 0 at a chain's end, and otherwise one more than the next entry's row.
 #[derive(Clone, Copy)]
@@ -31,34 +25,24 @@ pub struct TagEntry {
 }
 
 // Whether there are few enough bones, in a table that holds them, and room for their chains. 2 goes before 1.
-fn tags_room(bones: usize, n: usize, buckets: usize, entries: usize) -> TableRoom
-    ensures answer { room_of result ≡ room_for n (tags_hold n bones buckets entries) }
+#[tactic(
+    auto,
+    using(crate::proofs::Counts::entries_le),
+    unfolding(tables::specs::Outcome::derived, crate::specs::Tagging::tags_hold)
+)]
+fn tags_room(bones: usize, n: usize, buckets: usize, entries: usize) -> Result<(), Refusal>
+    ensures answer { outcome result ≡ room_for n (tags_hold n bones buckets entries) }
 {
-    if n > format::MOST {
-        return TableRoom::Refused(Refusal::TooManyBones);
+    if n > MOST {
+        return Err(Refusal::TooManyBones);
     }
-    if bones < format::BONE_WORDS * n {
-        return TableRoom::Refused(Refusal::TableTooShort);
+    if bones < BONE_WORDS * n
+        || buckets < bucket_count(n)
+        || entries < ENTRY_WORDS * entry_count(n)
+    {
+        return Err(Refusal::TableTooShort);
     }
-    if buckets < bucket_count(n) {
-        return TableRoom::Refused(Refusal::TableTooShort);
-    }
-    if entries < ENTRY_WORDS * entry_count(n) {
-        return TableRoom::Refused(Refusal::TableTooShort);
-    }
-    TableRoom::Enough
-}
-
-// The entry of a tag at position p, in front of the entry that `link` leads to.
-fn entry_at(tag: u16, p: usize, link: u32) -> TagEntry
-    requires { p ≤ 65535 }
-    ensures answer { EntryIs tag p link result }
-{
-    TagEntry {
-        tag: tag as u32,
-        position: p as u32,
-        link: link,
-    }
+    Ok(())
 }
 
 // Stores an entry as row p.
@@ -67,9 +51,9 @@ fn put_entry(entries: &mut [u32], p: usize, e: TagEntry)
     ensures rows { entries.new ≡ sets entries.old (3 * p) (entry_words (meant_entry e)) }
 {
     let at = ENTRY_WORDS * p;
-    entries[at] = e.tag;
-    entries[at + format::ENTRY_POSITION] = e.position;
-    entries[at + format::ENTRY_LINK] = e.link;
+    entries[at + ENTRY_TAG] = e.tag;
+    entries[at + ENTRY_POSITION] = e.position;
+    entries[at + ENTRY_LINK] = e.link;
 }
 
 // The bucket of a tag. Of many bones most tags are below the number of buckets, and the test takes less time than a division.
@@ -77,7 +61,7 @@ fn bucket_of(tag: u16, count: usize) -> usize
     requires { 0 < count }
     ensures answer { (result ≡ tag % count) × (result < count) }
 {
-    let t = tag as usize;
+    let t = usize::from(tag);
     if t < count { t } else { t % count }
 }
 
@@ -89,8 +73,12 @@ fn enter_tag(bones: &[u32], p: usize, count: usize, buckets: &mut [u32], entries
 {
     let tag = tag_at(bones, p);
     let b = bucket_of(tag, count);
-    let e = entry_at(tag, p, buckets[b]);
-    put_entry(entries, p, e);
+    let entry = TagEntry {
+        tag: u32::from(tag),
+        position: p as u32,
+        link: buckets[b],
+    };
+    put_entry(entries, p, entry);
     buckets[b] = p as u32 + 1;
 }
 
@@ -100,19 +88,21 @@ fn enter_tags(bones: &[u32], n: usize, count: usize, buckets: &mut [u32], entrie
     ensures rows { Linked (tags (bones_of n bones.now))
         buckets.old entries.old buckets.new entries.new }
 {
-    let rows = entry_count(n);
-    let mut p = 0;
-    while p < rows {
+    for p in 0..entry_count(n) {
         enter_tag(bones, p, count, buckets, entries);
-        p += 1;
     }
 }
 
 // Derives the chains of the first n bones of a table: a word for each bucket, 0 or one more than its first entry's row, and an
 // entry's row for each position. Gives the number of buckets. Refuses 2, then 1 where `bones` has fewer than n rows, `buckets`
 // fewer words than buckets or `entries` fewer rows than entries. Behind the rows, and after a refusal, both tables are zero.
-pub fn build_bone_tags(bones: &[u32], n: usize, buckets: &mut [u32], entries: &mut [u32]) -> Tagged
-    ensures answer { tagged_of result
+#[tactic(
+    auto,
+    using(tables::proofs::Outcome::refuses, tables::proofs::Outcome::enough),
+    unfolding(tables::specs::Outcome::derived, crate::specs::Tagging::tags_hold)
+)]
+pub fn build_bone_tags(bones: &[u32], n: usize, buckets: &mut [u32], entries: &mut [u32]) -> Result<usize, Refusal>
+    ensures answer { outcome result
         ≡ tags_result n (length bones.now) (length buckets.old) (length entries.old) }
     ensures buckets { buckets.new
         ≡ leaves (tags_result n (length bones.now) (length buckets.old) (length entries.old))
@@ -122,12 +112,10 @@ pub fn build_bone_tags(bones: &[u32], n: usize, buckets: &mut [u32], entries: &m
         (flat_map entry_words (entry_rows (tags (bones_of n bones.now)))) (length entries.old) }
 {
     let room = tags_room(bones.len(), n, buckets.len(), entries.len());
-    clear32(buckets);
-    clear32(entries);
-    if let TableRoom::Refused(r) = room {
-        return Tagged::Refused(r);
-    }
+    clear(buckets);
+    clear(entries);
+    room?;
     let count = bucket_count(n);
     enter_tags(bones, n, count, buckets, entries);
-    Tagged::Done(count)
+    Ok(count)
 }

@@ -45,29 +45,10 @@ parents-more n t =
     ap (map (λ (b : Bone Place). b.parent)) (bones_of-more n t) ∙ map-append (λ (b : Bone Place). b.parent) (bones_of n t) (row_at
     t n ∷ [])
 
--- the parents below p stand in the table
-pub record Parents (t : List ℕ) (n p : ℕ) (out₀ out : List ℕ) : Type 0 where
-  pub within : p ≤ n
-  pub same : length out ≡ length out₀
-  pub is : out ≡ laid (parents (bones_of p t)) (length out₀)
-
-pub parents-none : (t : List ℕ) (n : ℕ) (out : List ℕ) → out ≡ cleared (length out) → Parents t n 0 out out
-unfolding bones_of
-parents-none t n out z = record { within = omega arith; same = refl; is = z ∙ sym (laid_none (length out)) }
-
+-- one parent more in a table that holds those below p
 pub parents-next :
-    {t out₀ out : List ℕ} {n p r : ℕ} → n ≤ length out₀ → Parents t n p out₀ out → p < n → r ≡ (row_at t p).parent
-    → Parents t n (p + 1) out₀ (set out p r)
-parents-next {t} {out₀} {out} {n} {p} {r} room s h e =
+    (t : List ℕ) {out : List ℕ} (m p : ℕ) {r : ℕ} → p < m → r ≡ (row_at t p).parent → out ≡ laid (parents (bones_of p t)) m
+    → set out p r ≡ laid (parents (bones_of (p + 1) t)) m
+parents-next t m p h e k =
     let l : length (parents (bones_of p t)) ≡ p = length_column (λ (b : Bone Place). b.parent) p t in
-    record {
-      within = omega arith;
-      same = length-set out p r ∙ s.same;
-      is =
-          rw (s.is, e, add-one, parents-more p t)
-          (sets-laid ((row_at t p).parent ∷ []) (parents (bones_of p t)) (length out₀) p l (omega arith));
-    }
-
-pub parents-all : {t out₀ out : List ℕ} {n p : ℕ} → Parents t n p out₀ out → n ≤ p → out
-    ≡ laid (parents (bones_of n t)) (length out₀)
-parents-all {n = n} {p = p} s h = let e : p ≡ n = omega (arith, s.within) in rw e at s.is
+    rw (k, e, add-one, parents-more p t) (sets-laid ((row_at t p).parent ∷ []) (parents (bones_of p t)) m p l (omega arith))

@@ -1,14 +1,13 @@
 -- `build_indices`: its sizes, its answer, and what its stages leave. Definitions only.
-use Rattle.std.specs.Prelude.{ℕ, ◌+◌, ◌*◌, ◌≤◌, ◌≡◌, Bool, ◌&&◌, List, length, leb}
-use Rattle.format.specs.Result.{Res, refused, done}
-use Rattle.format.specs.Refusal.{number}
+use Rattle.std.specs.Prelude.{ℕ, ◌+◌, ◌*◌, ◌≤◌, ◌≡◌, Bool, ◌&&◌, List, Result, length, leb}
+use Rattle.format.specs.Result.{Res}
+use Rattle.format.specs.Refusal.{outcome}
+use Rattle.format.specs.declared.Refusal.{Refusal}
 use Rattle.format.specs.Children.{first_pending, children}
 use Rattle.format.specs.Deriving.{indices, parents}
 use Rattle.format.specs.Rows.{bone_width, bones_of, cleared}
 use Rattle.tables.specs.Outcome.{derived, leaves}
 use Rattle.derive_children.specs.Pile.{Ready, Stacked, pile_of, pending_of}
-use Rattle.derive_children.specs.declared.indices.Indexed.{Indexed}
-use Rattle.derive_children.specs.declared.indices.Indexed.TheVariants.{Done, Refused}
 
 -- ---- sizes and answer
 
@@ -31,14 +30,9 @@ abbrev pub indices_result : ℕ → List ℕ → ℕ → ℕ → ℕ → Res ℕ
 indices_result n t parents children pending =
     derived n (indices_hold n (length t) parents children pending) (length (children_of n t))
 
--- the code's answer as a result
-abbrev pub indexed_of : Indexed → Res ℕ
-indexed_of (Done count) = done count
-indexed_of (Refused r) = refused (number r)
-
 -- what a call of `build_indices` leaves in its two lists, by the tables at entry
-pub record Indexing (n : ℕ) (t ps cs pending : List ℕ) (r : Indexed) (ps' cs' : List ℕ) : Type 0 where
-  pub answer : indexed_of r ≡ indices_result n t (length ps) (length cs) (length pending)
+pub record Indexing (n : ℕ) (t ps cs pending : List ℕ) (r : Result ℕ Refusal) (ps' cs' : List ℕ) : Type 0 where
+  pub answer : outcome r ≡ indices_result n t (length ps) (length cs) (length pending)
   pub parents_left :
       ps' ≡ leaves (indices_result n t (length ps) (length cs) (length pending)) (parents_of n t) (length ps)
   pub children_left :

@@ -2,51 +2,37 @@
 // alone.
 ghost use Rattle.std.specs.Prelude.{◌≡◌, ◌+◌, ◌*◌, ◌≤◌, ◌<◌, length};
 ghost use Rattle.format.specs.Children.{children};
+ghost use Rattle.format.specs.Refusal.{outcome};
 ghost use Rattle.format.specs.Rows.{laid, cleared};
-ghost use Rattle.tables.specs.Outcome.{leaves, room_for, room_of};
+ghost use Rattle.tables.specs.Outcome.{leaves, room_for};
 ghost use Rattle.derive_children.specs.Pile.{Listing};
-ghost use Rattle.derive_children.specs.Indexing.{indices_hold, indices_result, indexed_of, parents_of, children_of, indices_for};
+ghost use Rattle.derive_children.specs.Indexing.{indices_hold, indices_result, parents_of, children_of, indices_for};
 ghost use Rattle.derive_children.specs.Indexing.{Indexing, ListRoom};
 
 use crate::index::index_children;
 use crate::pile::{push_roots, put_layers};
-use format::Refusal;
+use format::{BONE_WORDS, MOST, Refusal};
 use rows::parent_at;
-use tables::{TableRoom, clear16, clear32};
-
-// The answer: how many child entries there are.
-#[derive(Clone, Copy)]
-pub enum Indexed {
-    Done(usize),
-    Refused(Refusal),
-}
+use tables::clear;
 
 // Whether there are few enough bones, in a table that holds them, and room for the lists and the work. 2 goes before 1.
+#[tactic(auto, unfolding(tables::specs::Outcome::derived, crate::specs::Indexing::indices_hold))]
 fn indices_room(
     bones: usize,
     n: usize,
     parents: usize,
     children: usize,
     pending: usize,
-) -> TableRoom
-    ensures answer { room_of result ≡ room_for n (indices_hold n bones parents children pending) }
+) -> Result<(), Refusal>
+    ensures answer { outcome result ≡ room_for n (indices_hold n bones parents children pending) }
 {
-    if n > format::MOST {
-        return TableRoom::Refused(Refusal::TooManyBones);
+    if n > MOST {
+        return Err(Refusal::TooManyBones);
     }
-    if bones < format::BONE_WORDS * n {
-        return TableRoom::Refused(Refusal::TableTooShort);
+    if bones < BONE_WORDS * n || parents < n || children < 8 * (n + 1) || pending < 8 * (n + 1) {
+        return Err(Refusal::TableTooShort);
     }
-    if parents < n {
-        return TableRoom::Refused(Refusal::TableTooShort);
-    }
-    if children < 8 * (n + 1) {
-        return TableRoom::Refused(Refusal::TableTooShort);
-    }
-    if pending < 8 * (n + 1) {
-        return TableRoom::Refused(Refusal::TableTooShort);
-    }
-    TableRoom::Enough
+    Ok(())
 }
 
 // The parents list; the table is zero.
@@ -54,45 +40,47 @@ fn put_parents(bones: &[u32], n: usize, out: &mut [u16])
     requires { (n ≤ length out.old) × (out.old ≡ cleared (length out.old)) }
     ensures rows { out.new ≡ laid (parents_of n bones.now) (length out.old) }
 {
-    let mut p = 0;
-    while p < n {
+    for p in 0..n {
         out[p] = parent_at(bones, p);
-        p += 1;
     }
 }
 
 // The child list of the parents given, in a table that is zero. Gives the number of entries.
+#[tactic(auto, unfolding(format::specs::Children::children, crate::specs::Pile::entries))]
 fn put_children(bones: &[u32], parents: &[u16], pending: &mut [u32], out: &mut [u16]) -> usize
     requires { ListRoom parents.now pending.old out.old }
     ensures answer { Listing (children (indices_for bones.now parents.now) parents.now)
         result out.old out.new }
 {
-    clear32(pending);
+    clear(pending);
     index_children(bones, parents, pending);
     let start = push_roots(bones, parents, pending);
     put_layers(bones, parents, pending, out, start)
 }
 
 // The two lists, or a refusal; the working table is left as it may be.
+#[tactic(
+    auto,
+    using(tables::proofs::Outcome::refuses, tables::proofs::Outcome::enough),
+    unfolding(tables::specs::Outcome::derived, crate::specs::Indexing::indices_hold)
+)]
 fn attempt(
     bones: &[u32],
     n: usize,
     parents: &mut [u16],
     children: &mut [u16],
     pending: &mut [u32],
-) -> Indexed
+) -> Result<usize, Refusal>
     ensures answer { Indexing n bones.now parents.old children.old pending.old
         result parents.new children.new }
 {
     let room = indices_room(bones.len(), n, parents.len(), children.len(), pending.len());
-    clear16(parents);
-    clear16(children);
-    if let TableRoom::Refused(r) = room {
-        return Indexed::Refused(r);
-    }
+    clear(parents);
+    clear(children);
+    room?;
     put_parents(bones, n, parents);
     let count = put_children(bones, &parents[..n], pending, children);
-    Indexed::Done(count)
+    Ok(count)
 }
 
 // Derives the parents list and the child list of the first n bones of a table. Gives the number of child entries. Refuses 2,
@@ -105,8 +93,8 @@ pub fn build_indices(
     parents: &mut [u16],
     children: &mut [u16],
     pending: &mut [u32],
-) -> Indexed
-    ensures answer { indexed_of result
+) -> Result<usize, Refusal>
+    ensures answer { outcome result
         ≡ indices_result n bones.now (length parents.old) (length children.old)
         (length pending.old) }
     ensures parents { parents.new
@@ -118,6 +106,6 @@ pub fn build_indices(
     ensures pending { pending.new ≡ cleared (length pending.old) }
 {
     let r = attempt(bones, n, parents, children, pending);
-    clear32(pending);
+    clear(pending);
     r
 }

@@ -4,4 +4,3 @@ pub mod Walking
 pub mod Lanes
 pub mod MatrixWords
 pub mod Placing
-pub mod MatrixTables

@@ -3,15 +3,12 @@ use Rattle.std.specs.Prelude.{ℕ, ◌*◌, ◌≤◌, ◌≡◌, Bool, ◌&&◌
 use mathlib.Core.List.{List, ◌++◌, flat_map}
 use Rattle.math.specs.Matrix.{set_column4, matrix_words}
 use Rattle.math.specs.Inverse.{inverse}
-use Rattle.format.specs.Result.{Res, refused, done}
-use Rattle.format.specs.Refusal.{number}
+use Rattle.format.specs.Result.{Res}
 use Rattle.format.specs.Section.{Place}
 use Rattle.format.specs.Bone.{Bone}
 use Rattle.format.specs.Matrices as format
 use Rattle.format.specs.Rows.{bone_width, bones_of}
 use Rattle.tables.specs.Outcome.{room_for, leaves}
-use Rattle.derive_matrices.specs.declared.matrices.Transformed.{Transformed}
-use Rattle.derive_matrices.specs.declared.matrices.Transformed.TheVariants.{Done, Refused}
 
 -- whether tables of so many words hold n bones and their matrices
 unfoldable pub matrices_hold : ℕ → ℕ → ℕ → ℕ → Bool
@@ -20,11 +17,6 @@ matrices_hold n bones inverse local = leb (bone_width * n) bones && leb (16 * n)
 -- what the call gives, by the sizes of its tables
 abbrev pub matrices_result : ℕ → ℕ → ℕ → ℕ → Res (Unit {0})
 matrices_result n bones inverse local = room_for n (matrices_hold n bones inverse local)
-
--- the answer as a result
-abbrev pub transformed_of : Transformed → Res (Unit {0})
-transformed_of Done = done tt
-transformed_of (Refused r) = refused (number r)
 
 -- what the two tables hold at the end, each from i₀ to i and from l₀ to l
 pub record MatrixRows (c : Res (Unit {0})) (bones : List (Bone Place)) (i₀ i l₀ l : List ℕ) : Type 0 where

@@ -1,44 +1,33 @@
 // `build_transformations`: each bone's inverse and local matrix, as rows of sixteen words in two tables.
 ghost use Rattle.std.specs.Prelude.{◌≡◌, true, ◌++◌, ◌+◌, ◌-◌, ◌*◌, ◌≤◌, length, drop};
 ghost use Rattle.std.proofs.lemmas.List.Edits.{sets};
+ghost use Rattle.format.specs.Refusal.{outcome};
 ghost use Rattle.format.specs.Rows.{bone_width, bones_of};
 ghost use Rattle.format.specs.Matrices.{local_of, inverse_of, inverses, locals};
 ghost use Rattle.rows.specs.Row.{row_at};
-ghost use Rattle.tables.specs.Outcome.{room_for, room_of};
+ghost use Rattle.tables.specs.Outcome.{room_for};
 ghost use Rattle.derive_matrices.specs.Walking.{joint_of, meant_pose, walk_from, Walkable};
-ghost use Rattle.derive_matrices.specs.Transforming.{matrices_hold, matrices_result, transformed_of, inverse_from};
+ghost use Rattle.derive_matrices.specs.Transforming.{matrices_hold, matrices_result, inverse_from};
 ghost use Rattle.derive_matrices.specs.Transforming.{MatrixRoom, MatricesFirst, MatrixRows, Continues};
 
 use crate::walk::{Climber, Joint, Pose, before, joint_in, plain_rows, side_by_side, walked};
-use format::{MATRIX_WORDS, Refusal};
+use format::{BONE_WORDS, MATRIX_WORDS, MOST, Refusal};
 use math::{Mat4, Vec3};
 use rows::{kept_at, scale_at};
-use tables::{TableRoom, clear32, clear32_from};
-
-// The answer.
-#[derive(Clone, Copy)]
-pub enum Transformed {
-    Done,
-    Refused(Refusal),
-}
+use tables::{clear, clear_from};
 
 // Whether there are few enough bones, in a table that holds them, and room for their matrices. 2 goes before 1.
-fn matrices_room(bones: usize, n: usize, inverse: usize, local: usize) -> TableRoom
-    ensures answer { room_of result ≡ room_for n (matrices_hold n bones inverse local) }
+#[tactic(auto, unfolding(tables::specs::Outcome::derived, crate::specs::Transforming::matrices_hold))]
+fn matrices_room(bones: usize, n: usize, inverse: usize, local: usize) -> Result<(), Refusal>
+    ensures answer { outcome result ≡ room_for n (matrices_hold n bones inverse local) }
 {
-    if n > format::MOST {
-        return TableRoom::Refused(Refusal::TooManyBones);
+    if n > MOST {
+        return Err(Refusal::TooManyBones);
     }
-    if bones < format::BONE_WORDS * n {
-        return TableRoom::Refused(Refusal::TableTooShort);
+    if bones < BONE_WORDS * n || inverse < MATRIX_WORDS * n || local < MATRIX_WORDS * n {
+        return Err(Refusal::TableTooShort);
     }
-    if inverse < MATRIX_WORDS * n {
-        return TableRoom::Refused(Refusal::TableTooShort);
-    }
-    if local < MATRIX_WORDS * n {
-        return TableRoom::Refused(Refusal::TableTooShort);
-    }
-    TableRoom::Enough
+    Ok(())
 }
 
 // The inverse matrix of a bone whose walk ends there. Column 4 is four +0.
@@ -189,27 +178,31 @@ fn put_matrices(bones: &[u32], n: usize, inverse: &mut [u32], local: &mut [u32])
 
 // The inverse and the local matrices of the first n bones of a table, sixteen words each, zeros behind them. Refuses 2 above
 // 65,535 bones, then 1 where a table lacks its n rows; a refusal leaves both tables zero.
+#[tactic(
+    auto,
+    using(tables::proofs::Outcome::enough),
+    unfolding(tables::specs::Outcome::derived, crate::specs::Transforming::matrices_hold)
+)]
 pub fn build_transformations(
     bones: &[u32],
     n: usize,
     inverse: &mut [u32],
     local: &mut [u32],
-) -> Transformed
-    ensures answer { transformed_of result ≡
+) -> Result<(), Refusal>
+    ensures answer { outcome result ≡
         matrices_result n (length bones.now) (length inverse.old) (length local.old) }
     ensures rows { MatrixRows
         (matrices_result n (length bones.now) (length inverse.old) (length local.old))
         (bones_of n bones.now)
         inverse.old inverse.new local.old local.new }
 {
-    let room = matrices_room(bones.len(), n, inverse.len(), local.len());
-    if let TableRoom::Refused(r) = room {
-        clear32(inverse);
-        clear32(local);
-        return Transformed::Refused(r);
+    if let Err(refusal) = matrices_room(bones.len(), n, inverse.len(), local.len()) {
+        clear(inverse);
+        clear(local);
+        return Err(refusal);
     }
-    put_matrices(bones, n, &mut *inverse, &mut *local);
-    clear32_from(&mut *inverse, MATRIX_WORDS * n);
-    clear32_from(&mut *local, MATRIX_WORDS * n);
-    Transformed::Done
+    put_matrices(bones, n, inverse, local);
+    clear_from(inverse, MATRIX_WORDS * n);
+    clear_from(local, MATRIX_WORDS * n);
+    Ok(())
 }

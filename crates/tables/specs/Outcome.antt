@@ -1,10 +1,7 @@
 -- What deriving calls answer and leave in their tables (docs/FORMAT.md, "Who can cause a refusal"). Definitions only.
 use Rattle.std.specs.Prelude.{ℕ, Bool, List, length, leb}
 use Rattle.format.specs.Result.{Res, refused, done, ◌>>=◌, need}
-use Rattle.format.specs.Refusal.{number}
 use Rattle.format.specs.Rows.{laid, cleared}
-use Rattle.tables.specs.declared.TableRoom.{TableRoom}
-use Rattle.tables.specs.declared.TableRoom.TheVariants as room
 
 -- n bones derived: 2 where there are too many, then 1 where the tables have no room, then the value
 unfoldable pub derived : {A : Type 0} → ℕ → Bool → A → Res A
@@ -26,8 +23,3 @@ leaves (done a) rows n = laid rows n
 abbrev pub size_of : Res (List ℕ) → Res ℕ
 size_of (refused c) = refused c
 size_of (done b) = done (length b)
-
--- the code's answer about room as a result
-abbrev pub room_of : TableRoom → Res (Unit {0})
-room_of room.Enough = done tt
-room_of (room.Refused r) = refused (number r)

@@ -2,58 +2,55 @@
 // buffer.
 #![tactic(auto)]
 
-ghost use Rattle.std.specs.Prelude.{◌≡◌, ◌++◌, ◌-◌, length, take};
+ghost use Rattle.std.specs.Prelude.{◌≡◌, ◌++◌, ◌-◌, length, take, replicate};
 ghost use Rattle.format.specs.Rows.{cleared};
 ghost use Rattle.tables.specs.Front.{front_of};
 
-use format::Refusal;
+// A word of a lent table.
+pub trait Word: Copy {
+    ghost ZERO: { Self };
 
-// Whether lent tables have room.
-#[derive(Clone, Copy)]
-pub enum TableRoom {
-    Enough,
-    Refused(Refusal),
+    const ZERO: Self;
+}
+
+impl Word for u16 {
+    ghost ZERO = { 0 };
+
+    const ZERO: u16 = 0;
+}
+
+impl Word for u32 {
+    ghost ZERO = { 0 };
+
+    const ZERO: u32 = 0;
+}
+
+impl Word for u64 {
+    ghost ZERO = { 0 };
+
+    const ZERO: u64 = 0;
+}
+
+pub fn clear<W: Word>(t: &mut [W])
+    ensures rows { t.new ≡ replicate (length t.old) W.ZERO }
+{
+    for word in t.iter_mut() {
+        *word = W::ZERO;
+    }
 }
 
 // Zeros from `at` on; the words in front stay.
-pub fn clear32_from(t: &mut [u32], at: usize)
-    ensures rows { t.new ≡ take at t.old ++ cleared (length t.old - at) }
+pub fn clear_from<W: Word>(t: &mut [W], at: usize)
+    ensures rows { t.new ≡ take at t.old ++ replicate (length t.old - at) W.ZERO }
 {
-    let mut i = at;
-    while i < t.len() {
-        t[i] = 0;
-        i += 1;
-    }
-}
-
-pub fn clear16(t: &mut [u16])
-    ensures rows { t.new ≡ cleared (length t.old) }
-{
-    let mut i = 0;
-    while i < t.len() {
-        t[i] = 0;
-        i += 1;
-    }
-}
-
-pub fn clear32(t: &mut [u32])
-    ensures rows { t.new ≡ cleared (length t.old) }
-{
-    clear32_from(t, 0);
-}
-
-pub fn clear64(t: &mut [u64])
-    ensures rows { t.new ≡ cleared (length t.old) }
-{
-    let mut i = 0;
-    while i < t.len() {
-        t[i] = 0;
-        i += 1;
+    if at < t.len() {
+        clear(&mut t[at..]);
     }
 }
 
 // The first n bytes of the caller's buffer, as a part of it that starts where the buffer does; the empty part if n is above its length.
 // Nothing is stored, but of the bytes behind the part the contract cannot speak: a slice of which a part is handed back has no exit.
+#[tactic(auto, unfolding(format::specs::Field::which_list))]
 pub fn front<'a>(out: &'a mut [u8], n: usize) -> &'a mut [u8]
     ensures part { result.now ≡ front_of n out.old }
     ensures place { result.ref_ptr ≡ out.entry.ref_ptr }

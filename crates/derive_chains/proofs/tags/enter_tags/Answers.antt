@@ -1,4 +1,4 @@
--- `derive_chains::tags::enter_tags` meets its contract. The loop's invariant: the positions below p are entered. Assumes nothing.
+-- Each turn enters one position more.
 use Prim.Native.Nat.{◌≤◌, ◌<◌}
 use native.Mathlib.Omega.{arith}
 use mathlib.Core.Path.{sym}
@@ -14,53 +14,17 @@ pub loop-p-init : goal.loop-p-init
 loop-p-init c = entering_none _ c.requires
 
 pub enter_tag-requires : goal.enter_tag-requires
-enter_tag-requires c =
-    let g : c.loop-p.p < entry_count c.args.n = omega (
-      arith,
-      c.loop-p-test.true,
-      c.entry_count-rows.ensures.answer,
-    ) in
-    entering_asks c.requires c.loop-p.invariant g
-
-pub overflow_add-p : goal.overflow_add-p
-overflow_add-p c = omega (
-  arith,
-  c.loop-p.invariant.within,
-  c.loop-p-test.true,
-  c.entry_count-rows.ensures.answer,
-  entries_le c.args.n,
-  c.requires.few,
-)
-
-pub loop-p-smaller : goal.loop-p-smaller
-loop-p-smaller c = omega (
-  arith,
-  c.loop-p.invariant.within,
-  c.loop-p-test.true,
-  c.entry_count-rows.ensures.answer,
-)
+enter_tag-requires c = entering_asks c.requires c.loop-p.invariant (omega arith)
 
 pub loop-p-preserved : goal.loop-p-preserved
 loop-p-preserved c =
-    let g : c.loop-p.p < entry_count c.args.n = omega (
-      arith,
-      c.loop-p-test.true,
-      c.entry_count-rows.ensures.answer,
-    ) in
     let h : c.loop-p.p < c.args.n = omega (arith, entries_le c.args.n) in
     let t = sym (get_or_column (λ (b : Bone Place). b.tag) 0 c.args.n c.loop-p.p c.args.bones.now h) in
-    entering_more c.requires c.loop-p.invariant g t c.enter_tag.auto.buckets c.enter_tag.auto.entries c.enter_tag.ensures.rows
-
-pub shape_of-buckets : goal.shape_of-buckets
-shape_of-buckets c = c.loop-p.invariant.same_buckets
-
-pub shape_of-entries : goal.shape_of-entries
-shape_of-entries c = c.loop-p.invariant.same_entries
+    entering_more c.requires c.loop-p.invariant (omega arith) t c.enter_tag.auto.buckets c.enter_tag.auto.entries
+    c.enter_tag.ensures.rows
 
 pub returns : goal.returns
 returns c =
     record {
-      rows =
-          let g : entry_count c.args.n ≤ c.loop-p.p = omega (arith, c.loop-p-test.false, c.entry_count-rows.ensures.answer) in
-          entering_all c.requires c.loop-p.invariant (length_column (λ (b : Bone Place). b.tag) c.args.n c.args.bones.now) g;
+      rows = entering_all c.requires c.loop-p.invariant (length_column (λ (b : Bone Place). b.tag) c.args.n c.args.bones.now) (omega arith);
     }
