@@ -6,21 +6,19 @@
 ghost use Rattle.std.specs.Prelude.{◌≡◌, ◌≤◌, length};
 ghost use Rattle.format.specs.Result.{done};
 ghost use Rattle.format.specs.Deriving.{derives};
+ghost use Rattle.format.specs.Refusal.{outcome};
 ghost use Rattle.format.specs.Rows.{cleared};
 ghost use Rattle.tables.specs.Working.{derive_room};
-ghost use Rattle.derive_chains.specs.Tagging.{tagged_of};
-ghost use Rattle.derive_children.specs.Indexing.{indexed_of};
-ghost use Rattle.derive_matrices.specs.Transforming.{transformed_of};
 ghost use Rattle.check_stages.specs.Agreement.{agreement_of, chains_judged, indices_judged, matrices_judged};
 ghost use Rattle.check_stages.specs.Agreement.{chains_stage, indices_stage, matrices_stage};
 
 use check_lists::{same_chains, same_words};
 use derive_chains::buckets::{bucket_count, entry_count};
-use derive_chains::tags::{Tagged, build_bone_tags};
-use derive_children::indices::{Indexed, build_indices};
-use derive_matrices::matrices::{Transformed, build_transformations};
+use derive_chains::tags::build_bone_tags;
+use derive_children::indices::build_indices;
+use derive_matrices::matrices::build_transformations;
 use format::Refusal;
-use tables::{clear16, clear32};
+use tables::clear;
 
 // Whether what was read equals what was derived.
 #[derive(Clone, Copy)]
@@ -73,7 +71,7 @@ pub fn room(
 
 // 21, behind what deriving gave.
 fn chains_judged(
-    derived: Tagged,
+    derived: Result<usize, Refusal>,
     buckets: &[u32],
     count: usize,
     entries: &[u32],
@@ -82,12 +80,12 @@ fn chains_judged(
     dentries: &[u32],
 ) -> Agreement
     ensures answer { agreement_of result
-        ≡ chains_judged (tagged_of derived) buckets.now count entries.now n dbuckets.now
+        ≡ chains_judged (outcome derived) buckets.now count entries.now n dbuckets.now
         dentries.now }
 {
     match derived {
-        Tagged::Refused(r) => Agreement::Refused(r),
-        Tagged::Done(c) => {
+        Err(r) => Agreement::Refused(r),
+        Ok(c) => {
             if !same_chains(buckets, count, entries, n, dbuckets, c, dentries) {
                 return Agreement::Refused(Refusal::Chains);
             }
@@ -115,8 +113,8 @@ pub fn chains_stage(
 {
     let derived = build_bone_tags(bones, n, dbuckets, dentries);
     let r = chains_judged(derived, buckets, count, entries, n, dbuckets, dentries);
-    clear32(dbuckets);
-    clear32(dentries);
+    clear(dbuckets);
+    clear(dentries);
     r
 }
 
@@ -124,7 +122,7 @@ pub fn chains_stage(
 
 // 22, then 23, behind what deriving gave.
 fn indices_judged(
-    derived: Indexed,
+    derived: Result<usize, Refusal>,
     n: usize,
     parents: &[u16],
     p: usize,
@@ -134,12 +132,12 @@ fn indices_judged(
     dchildren: &[u16],
 ) -> Agreement
     ensures answer { agreement_of result
-        ≡ indices_judged (indexed_of derived) n parents.now p children.now c dparents.now
+        ≡ indices_judged (outcome derived) n parents.now p children.now c dparents.now
         dchildren.now }
 {
     match derived {
-        Indexed::Refused(r) => Agreement::Refused(r),
-        Indexed::Done(k) => {
+        Err(r) => Agreement::Refused(r),
+        Ok(k) => {
             if !same_words(parents, p, dparents, n) {
                 return Agreement::Refused(Refusal::Parents);
             }
@@ -173,8 +171,8 @@ pub fn indices_stage(
 {
     let derived = build_indices(bones, n, dparents, dchildren, pending);
     let r = indices_judged(derived, n, parents, p, children, c, dparents, dchildren);
-    clear16(dparents);
-    clear16(dchildren);
+    clear(dparents);
+    clear(dchildren);
     r
 }
 
@@ -182,7 +180,7 @@ pub fn indices_stage(
 
 // 24, then 25, behind what deriving gave.
 fn matrices_judged(
-    derived: Transformed,
+    derived: Result<(), Refusal>,
     n: usize,
     inverse: &[u32],
     i: usize,
@@ -191,14 +189,14 @@ fn matrices_judged(
     dinverse: &[u32],
     dlocal: &[u32],
 ) -> Agreement
-    requires { transformed_of derived ≡ done tt → n ≤ 65535 }
+    requires { outcome derived ≡ done tt → n ≤ 65535 }
     ensures answer { agreement_of result
-        ≡ matrices_judged (transformed_of derived) n inverse.now i local.now l dinverse.now
+        ≡ matrices_judged (outcome derived) n inverse.now i local.now l dinverse.now
         dlocal.now }
 {
     match derived {
-        Transformed::Refused(r) => Agreement::Refused(r),
-        Transformed::Done => {
+        Err(r) => Agreement::Refused(r),
+        Ok(()) => {
             let words = format::MATRIX_WORDS * n;
             if !same_words(inverse, i, dinverse, words) {
                 return Agreement::Refused(Refusal::Inverse);
@@ -231,7 +229,7 @@ pub fn matrices_stage(
 {
     let derived = build_transformations(bones, n, dinverse, dlocal);
     let r = matrices_judged(derived, n, inverse, i, local, l, dinverse, dlocal);
-    clear32(dinverse);
-    clear32(dlocal);
+    clear(dinverse);
+    clear(dlocal);
     r
 }

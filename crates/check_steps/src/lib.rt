@@ -15,7 +15,7 @@ ghost use Rattle.check_steps.specs.Steps.{counts_of, begun, behind, kept_by};
 use check_stages::{Agreement, chains_stage, indices_stage, matrices_stage, room};
 use format::Refusal;
 use read::{Skeleton, clear_all};
-use tables::{clear16, clear32};
+use tables::clear;
 
 // How long each part is that was read: in rows, and in words of a list of matrices. What is absent counts 0.
 #[derive(Clone, Copy, Debug, Default, PartialEq, Eq)]
@@ -101,8 +101,8 @@ pub fn chains_step(
         }
         return Ok(Some(n));
     }
-    clear32(derived_buckets);
-    clear32(derived_entries);
+    clear(derived_buckets);
+    clear(derived_entries);
     v
 }
 
@@ -141,9 +141,9 @@ pub fn indices_step(
         }
         return Ok(Some(n));
     }
-    clear16(derived_parents);
-    clear16(derived_children);
-    clear32(pending);
+    clear(derived_parents);
+    clear(derived_children);
+    clear(pending);
     v
 }
 
@@ -179,8 +179,8 @@ pub fn matrices_step(
         }
         return Ok(Some(n));
     }
-    clear32(derived_inverse);
-    clear32(derived_local);
+    clear(derived_inverse);
+    clear(derived_local);
     v
 }
 

@@ -7,7 +7,7 @@ use mathlib.Core.Path.{◌≡◌, refl, sym, ap, ◌∙◌}
 use mathlib.Core.Bool.{Bool, true, false}
 use mathlib.Core.List.{List, [], ◌∷◌, ◌++◌, map, flat_map}
 use lib.ListN.{length, get_or, set, replicate, length-set}
-use lib.Seq.{sets, ext_get_or, get_or-set_same, get_or-set_other}
+use lib.Seq.{ext_get_or, get_or-set_same, get_or-set_other}
 use lib.Dec.{eqb}
 use borrow.Author.Tests.{eq-eqb, ne_eqb, eqb-true, eqb-false}
 use Rattle.format.specs.Chains.{bucket_count, entry_count, up_from}

@@ -2,7 +2,7 @@
 use Rattle.std.specs.Prelude.{ℕ, suc, ◌*◌, ◌%◌, ◌≤◌, ◌≡◌, Bool, ◌&&◌, length, get_or, set, leb}
 use mathlib.Core.List.{List, map, flat_map}
 use Rattle.std.proofs.lemmas.List.Edits.{sets}
-use Rattle.format.specs.Result.{Res, refused, done}
+use Rattle.format.specs.Result.{Res}
 use Rattle.format.specs.Chains.{bucket_count, entry_count, up_from}
 use Rattle.format.specs.Deriving.{EntryRow, entry_row}
 use Rattle.derive_chains.specs.ChainRows.{link_below, bucket_rows, entry_rows}

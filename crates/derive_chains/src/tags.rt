@@ -25,11 +25,7 @@ pub struct TagEntry {
 }
 
 // Whether there are few enough bones, in a table that holds them, and room for their chains. 2 goes before 1.
-#[tactic(
-    auto,
-    using(crate::proofs::Counts::entries_le),
-    unfolding(tables::specs::Outcome::derived, crate::specs::Tagging::tags_hold)
-)]
+#[tactic(auto, using(crate::proofs::Counts::entries_le), unfolding(tables::specs::Outcome::derived, crate::specs::Tagging::tags_hold))]
 fn tags_room(bones: usize, n: usize, buckets: usize, entries: usize) -> Result<(), Refusal>
     ensures answer { outcome result ≡ room_for n (tags_hold n bones buckets entries) }
 {
@@ -96,12 +92,13 @@ fn enter_tags(bones: &[u32], n: usize, count: usize, buckets: &mut [u32], entrie
 // Derives the chains of the first n bones of a table: a word for each bucket, 0 or one more than its first entry's row, and an
 // entry's row for each position. Gives the number of buckets. Refuses 2, then 1 where `bones` has fewer than n rows, `buckets`
 // fewer words than buckets or `entries` fewer rows than entries. Behind the rows, and after a refusal, both tables are zero.
-#[tactic(
-    auto,
-    using(tables::proofs::Outcome::refuses, tables::proofs::Outcome::enough),
-    unfolding(tables::specs::Outcome::derived, crate::specs::Tagging::tags_hold)
-)]
-pub fn build_bone_tags(bones: &[u32], n: usize, buckets: &mut [u32], entries: &mut [u32]) -> Result<usize, Refusal>
+#[tactic(auto, using(tables::proofs::Outcome::refuses, tables::proofs::Outcome::enough), unfolding(tables::specs::Outcome::derived, crate::specs::Tagging::tags_hold))]
+pub fn build_bone_tags(
+    bones: &[u32],
+    n: usize,
+    buckets: &mut [u32],
+    entries: &mut [u32],
+) -> Result<usize, Refusal>
     ensures answer { outcome result
         ≡ tags_result n (length bones.now) (length buckets.old) (length entries.old) }
     ensures buckets { buckets.new

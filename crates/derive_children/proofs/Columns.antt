@@ -1,20 +1,20 @@
 -- Laws of the columns of the bones that the lists take from a table: the index of each bone, and the parents. Assumes nothing.
-use Prim.Native.Nat.{ℕ, suc, ◌+◌, ◌<◌, ◌≤◌}
+use Prim.Native.Nat.{ℕ, suc, ◌+◌, ◌<◌}
 use native.Mathlib.Omega.{arith}
 use native.Mathlib.Numerals.{add-one}
 use mathlib.Core.Path.{◌≡◌, refl, sym, ap, ◌∙◌}
 use mathlib.Core.List.{List, [], ◌∷◌, ◌++◌, map}
-use lib.ListN.{length, get_or, set, length-set}
+use lib.ListN.{length, get_or, set}
 use lib.Seq.{sets}
 use Rattle.format.specs.Section.{Place}
 use Rattle.format.specs.Bone.{Bone}
 use Rattle.format.specs.Children.{pair_at}
 use Rattle.format.specs.Deriving.{indices, parents}
-use Rattle.format.specs.Rows.{bones_of, laid, cleared}
+use Rattle.format.specs.Rows.{bones_of, laid}
 use Rattle.rows.specs.Row.{row_at}
 use Rattle.rows.proofs.Rows.{get_or_column, length_column, bones_of-more}
 use Rattle.derive_children.specs.Indexing.{indices_for}
-use Rattle.tables.proofs.Laid.{laid_none, sets-laid}
+use Rattle.tables.proofs.Laid.{sets-laid}
 
 -- ---- the indices
 

@@ -59,11 +59,7 @@ fn put_children(bones: &[u32], parents: &[u16], pending: &mut [u32], out: &mut [
 }
 
 // The two lists, or a refusal; the working table is left as it may be.
-#[tactic(
-    auto,
-    using(tables::proofs::Outcome::refuses, tables::proofs::Outcome::enough),
-    unfolding(tables::specs::Outcome::derived, crate::specs::Indexing::indices_hold)
-)]
+#[tactic(auto, using(tables::proofs::Outcome::refuses, tables::proofs::Outcome::enough), unfolding(tables::specs::Outcome::derived, crate::specs::Indexing::indices_hold))]
 fn attempt(
     bones: &[u32],
     n: usize,

@@ -1,26 +1,14 @@
 -- Laws of the room that the matrices want: which test makes it, and back. Assumes nothing.
-use Prim.Native.Nat.{ℕ, ◌*◌, ◌≤◌, ◌<◌}
+use Prim.Native.Nat.{ℕ, ◌*◌, ◌≤◌}
 use mathlib.Core.Path.{◌≡◌}
-use mathlib.Core.Bool.{true, false, ◌&&◌}
+use mathlib.Core.Bool.{true, ◌&&◌}
 use lib.Dec.{leb}
-use borrow.Author.Tests.{le-leb, lt-leb, leb-true}
+use borrow.Author.Tests.{le-leb, leb-true}
 use Rattle.format.specs.Rows.{bone_width}
 use Rattle.derive_matrices.specs.Transforming.{matrices_hold}
 use Rattle.tables.proofs.Outcome.{both_true}
 
 module _ (n bones inverse local : ℕ) where
-  pub lacks_bones : bones < bone_width * n → matrices_hold n bones inverse local ≡ false
-  unfolding matrices_hold
-  lacks_bones h = rw (lt-leb (bone_width * n) bones h)
-
-  pub lacks_inverse : bone_width * n ≤ bones → inverse < 16 * n → matrices_hold n bones inverse local ≡ false
-  unfolding matrices_hold
-  lacks_inverse h k = rw (le-leb (bone_width * n) bones h, lt-leb (16 * n) inverse k)
-
-  pub lacks_local : bone_width * n ≤ bones → 16 * n ≤ inverse → local < 16 * n → matrices_hold n bones inverse local ≡ false
-  unfolding matrices_hold
-  lacks_local h k l = rw (le-leb (bone_width * n) bones h, le-leb (16 * n) inverse k, lt-leb (16 * n) local l)
-
   pub holds-all : bone_width * n ≤ bones → 16 * n ≤ inverse → 16 * n ≤ local → matrices_hold n bones inverse local ≡ true
   unfolding matrices_hold
   holds-all h k l = rw (le-leb (bone_width * n) bones h, le-leb (16 * n) inverse k, le-leb (16 * n) local l)

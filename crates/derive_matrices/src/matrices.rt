@@ -178,11 +178,7 @@ fn put_matrices(bones: &[u32], n: usize, inverse: &mut [u32], local: &mut [u32])
 
 // The inverse and the local matrices of the first n bones of a table, sixteen words each, zeros behind them. Refuses 2 above
 // 65,535 bones, then 1 where a table lacks its n rows; a refusal leaves both tables zero.
-#[tactic(
-    auto,
-    using(tables::proofs::Outcome::enough),
-    unfolding(tables::specs::Outcome::derived, crate::specs::Transforming::matrices_hold)
-)]
+#[tactic(auto, using(tables::proofs::Outcome::enough), unfolding(tables::specs::Outcome::derived, crate::specs::Transforming::matrices_hold))]
 pub fn build_transformations(
     bones: &[u32],
     n: usize,

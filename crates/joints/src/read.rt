@@ -171,7 +171,7 @@ fn read_lists(
         translation,
     );
     if let Step::Refused(r) = second {
-        tables::clear32(rotation);
+        tables::clear(rotation);
         return JointsRead::Refused(r);
     }
     let rotations = list_at(h.rotation, h.rotation_count);
@@ -206,8 +206,8 @@ pub fn read(
         (table_read sys.now gfx.now root rotation.old translation.old))
         (length translation.old) }
 {
-    tables::clear32(rotation);
-    tables::clear32(translation);
+    tables::clear(rotation);
+    tables::clear(translation);
     if root == 0 {
         return JointsRead::Nothing;
     }

@@ -52,14 +52,14 @@ pub fn clear_all(
         ≡ cleared_all (lent bones.old buckets.old entries.old inverse.old
         local.old parents.old children.old pool.old) }
 {
-    tables::clear32(bones);
-    tables::clear32(buckets);
-    tables::clear32(entries);
-    tables::clear32(inverse);
-    tables::clear32(local);
-    tables::clear16(parents);
-    tables::clear16(children);
-    tables::clear64(pool);
+    tables::clear(bones);
+    tables::clear(buckets);
+    tables::clear(entries);
+    tables::clear(inverse);
+    tables::clear(local);
+    tables::clear(parents);
+    tables::clear(children);
+    tables::clear(pool);
 }
 
 // The skeleton at an address, read into tables that are all zero. Of a refusal nothing is said of the tables.
@@ -164,7 +164,7 @@ pub fn read<'a>(
         sys, gfx, root, bones, buckets, entries, inverse, local, parents, children, pool,
     ) {
         Ok(s) => {
-            tables::clear64(pool);
+            tables::clear(pool);
             Ok(Some(s))
         }
         Err(r) => {

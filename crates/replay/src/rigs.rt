@@ -1,8 +1,6 @@
 // Deriving replayed (docs/FORMAT.md, "Deriving").
 use crate::buffers;
-use derive_chains::tags::Tagged;
-use derive_children::indices::Indexed;
-use derive_matrices::matrices::Transformed;
+use format::Refusal;
 
 // the parts
 const BONES: u16 = 2;
@@ -24,10 +22,10 @@ const PENDING: u16 = 9;
 
 // ---- chains
 
-fn tagged_as(r: Tagged, answer: u32, count: usize) -> bool {
+fn tagged_as(r: Result<usize, Refusal>, answer: u32, count: usize) -> bool {
     match r {
-        Tagged::Done(n) => answer == buffers::DONE && n == count,
-        Tagged::Refused(e) => answer == u32::from(e),
+        Ok(n) => answer == buffers::DONE && n == count,
+        Err(e) => answer == u32::from(e),
     }
 }
 
@@ -47,10 +45,10 @@ pub(crate) fn tags_agree(case: &[u8], n: usize, answer: u32) -> bool {
 
 // ---- parents and children
 
-fn indexed_as(r: Indexed, answer: u32, count: usize) -> bool {
+fn indexed_as(r: Result<usize, Refusal>, answer: u32, count: usize) -> bool {
     match r {
-        Indexed::Done(n) => answer == buffers::DONE && n == count,
-        Indexed::Refused(e) => answer == u32::from(e),
+        Ok(n) => answer == buffers::DONE && n == count,
+        Err(e) => answer == u32::from(e),
     }
 }
 
@@ -77,10 +75,10 @@ pub(crate) fn indices_agree(case: &[u8], n: usize, answer: u32) -> bool {
 
 // ---- matrices
 
-fn transformed_as(r: Transformed, answer: u32) -> bool {
+fn transformed_as(r: Result<(), Refusal>, answer: u32) -> bool {
     match r {
-        Transformed::Done => answer == buffers::DONE,
-        Transformed::Refused(e) => answer == u32::from(e),
+        Ok(()) => answer == buffers::DONE,
+        Err(e) => answer == u32::from(e),
     }
 }
 

@@ -13,10 +13,6 @@ ghost use Rattle.derive_children.specs.Indexing.{indices_result, parents_of, chi
 ghost use Rattle.derive_matrices.specs.Transforming.{matrices_result, MatrixRows};
 ghost use Rattle.rig_answers.specs.Answer.{counted};
 
-use derive_chains::tags::Tagged;
-use derive_children::indices::Indexed;
-use derive_matrices::matrices::Transformed;
-
 #[unsafe(no_mangle)]
 pub extern "C" fn rig_num_hash_buckets(n: usize) -> usize
     ensures answer { result ≡ num_hash_buckets n }
@@ -45,11 +41,11 @@ pub extern "C" fn rig_build_bone_tags(
         (flat_map entry_words (entry_rows (tags (bones_of n bones.now)))) (length entries.old) }
 {
     match derive_chains::tags::build_bone_tags(bones, n, buckets, entries) {
-        Tagged::Done(c) => {
+        Ok(c) => {
             *count = c;
             0
         }
-        Tagged::Refused(r) => {
+        Err(r) => {
             *count = 0;
             u32::from(r)
         }
@@ -81,11 +77,11 @@ pub extern "C" fn rig_build_indices(
     ensures pending { pending.new ≡ cleared (length pending.old) }
 {
     match derive_children::indices::build_indices(bones, n, parents, children, pending) {
-        Indexed::Done(c) => {
+        Ok(c) => {
             *count = c;
             0
         }
-        Indexed::Refused(r) => {
+        Err(r) => {
             *count = 0;
             u32::from(r)
         }
@@ -108,7 +104,7 @@ pub extern "C" fn rig_build_transformations(
         inverse.old inverse.new local.old local.new }
 {
     match derive_matrices::matrices::build_transformations(bones, n, inverse, local) {
-        Transformed::Done => 0,
-        Transformed::Refused(r) => u32::from(r),
+        Ok(()) => 0,
+        Err(r) => u32::from(r),
     }
 }

@@ -1,12 +1,10 @@
-// Lent tables and buffers (docs/FORMAT.md, "Who can cause a refusal"): whether tables have room, clearing them, and the written front of a
-// buffer.
+// Lent tables and buffers (docs/FORMAT.md, "Who can cause a refusal"): clearing tables, and the written front of a buffer.
 #![tactic(auto)]
 
 ghost use Rattle.std.specs.Prelude.{◌≡◌, ◌++◌, ◌-◌, length, take, replicate};
-ghost use Rattle.format.specs.Rows.{cleared};
 ghost use Rattle.tables.specs.Front.{front_of};
 
-// A word of a lent table.
+// A word of a lent table: a number of 16, 32 or 64 bits.
 pub trait Word: Copy {
     ghost ZERO: { Self };
 
@@ -31,6 +29,7 @@ impl Word for u64 {
     const ZERO: u64 = 0;
 }
 
+// Zeros throughout.
 pub fn clear<W: Word>(t: &mut [W])
     ensures rows { t.new ≡ replicate (length t.old) W.ZERO }
 {

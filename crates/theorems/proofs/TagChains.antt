@@ -17,13 +17,13 @@ use Rattle.tables.specs.Outcome.{derived, leaves}
 use Rattle.rows.proofs.Rows.{length-bones_of}
 use Rattle.derive_chains.specs.ChainRows.{bucket_rows, entry_rows}
 use Rattle.derive_chains.specs.Tagging.{tags_hold}
-use Rattle.derive_chains.specs.declared.tags.Tagged.TheVariants.{Done}
+use Rattle.std.specs.Prelude.{Ok}
 use Rattle.check_lists.specs.Chained.{entries_in}
 use Rattle.check_stages.proofs.Derived.{chains-derived}
 use Rattle.theorems.specs.TagChains.{BuildsTags, TagChains}
 
 following :
-    (bones : List ℕ) (n count : ℕ) (b₀ e₀ b e : List ℕ) → BuildsTags bones n (Done count) b₀ e₀ b e →
+    (bones : List ℕ) (n count : ℕ) (b₀ e₀ b e : List ℕ) → BuildsTags bones n (Ok count) b₀ e₀ b e →
     chains_along (entries_in e) n (take count b) ≡ Some (chains (tags (bones_of n bones)))
 unfolding derived
 following bones n count b₀ e₀ b e w =

@@ -18,12 +18,9 @@ use Rattle.format.specs.CallRefusals.{joints_read_refusals, joints_written_refus
 use Rattle.format.specs.CallRefusals.{translation_written_refusals, RefusesOnly}
 use Rattle.tables.specs.Outcome.{size_of}
 use Rattle.tables.specs.Working.{Working}
-use Rattle.derive_chains.specs.Tagging.{tags_result, tagged_of}
-use Rattle.derive_chains.specs.declared.tags.Tagged.{Tagged}
-use Rattle.derive_children.specs.Indexing.{indices_result, indexed_of}
-use Rattle.derive_children.specs.declared.indices.Indexed.{Indexed}
-use Rattle.derive_matrices.specs.Transforming.{matrices_result, transformed_of}
-use Rattle.derive_matrices.specs.declared.matrices.Transformed.{Transformed}
+use Rattle.derive_chains.specs.Tagging.{tags_result}
+use Rattle.derive_children.specs.Indexing.{indices_result}
+use Rattle.derive_matrices.specs.Transforming.{matrices_result}
 use Rattle.read.specs.Lent as read
 use Rattle.read.specs.Lent.{read_room}
 use Rattle.read.specs.Reads.{Reads, meant_read}
@@ -41,14 +38,14 @@ use Rattle.joints.specs.declared.write.JointsWritten.{JointsWritten}
 pub record Refusals : Type 0 where
   -- the three deriving calls, by the lengths of what they are lent
   pub bone_tags :
-      (n bones buckets entries : ℕ) (r : Tagged) → tagged_of r ≡ tags_result n bones buckets entries →
-      RefusesOnly deriving_refusals (tagged_of r)
+      (n bones buckets entries : ℕ) (r : Result ℕ Refusal) → refusal.outcome r ≡ tags_result n bones buckets entries →
+      RefusesOnly deriving_refusals (refusal.outcome r)
   pub indices :
-      (n : ℕ) (bones : List ℕ) (parents children pending : ℕ) (r : Indexed) →
-      indexed_of r ≡ indices_result n bones parents children pending → RefusesOnly deriving_refusals (indexed_of r)
+      (n : ℕ) (bones : List ℕ) (parents children pending : ℕ) (r : Result ℕ Refusal) →
+      refusal.outcome r ≡ indices_result n bones parents children pending → RefusesOnly deriving_refusals (refusal.outcome r)
   pub transformations :
-      (n bones inverse local : ℕ) (r : Transformed) → transformed_of r ≡ matrices_result n bones inverse local →
-      RefusesOnly deriving_refusals (transformed_of r)
+      (n bones inverse local : ℕ) (r : Result (Unit {0}) Refusal) → refusal.outcome r ≡ matrices_result n bones inverse local →
+      RefusesOnly deriving_refusals (refusal.outcome r)
   pub writing :
       (lent : Section) (room : DeriveRoom) (n : ℕ) (bones : List ℕ) (free : Words4) (out out' : List ℕ) (r : Written) →
       Writes (outcome lent room (length out) n bones free) r out out' → RefusesOnly writing_refusals (written_of r)

@@ -9,7 +9,8 @@ use borrow.Author.Tests.{le-leb, leb-true}
 use lib.ListN.{length, replicate, length-append, length-replicate}
 use lib.Dec.{leb}
 use Rattle.format.specs.Result.{Res, refused, done, ◌>>=◌, need}
-use Rattle.format.specs.Refusal.{number}
+use Rattle.std.specs.Prelude.{Result, Ok, Err}
+use Rattle.format.specs.Refusal.{number, outcome}
 use Rattle.format.specs.declared.Refusal.{Refusal}
 use Rattle.format.specs.Chains.{bucket_count, entry_count}
 use Rattle.format.specs.Deriving.{tags, parents, derives}
@@ -18,20 +19,14 @@ use Rattle.format.specs.Matrices.{inverses, locals}
 use Rattle.format.specs.Rows.{entry_words, laid, bones_of}
 use Rattle.tables.specs.Outcome.{derived, leaves}
 use Rattle.tables.proofs.Outcome.{both_true}
-use Rattle.derive_chains.specs.Tagging.{tags_hold, tags_result, tagged_of}
-use Rattle.derive_children.specs.Indexing.{indices_hold, indices_result, indexed_of, children_of}
+use Rattle.derive_chains.specs.Tagging.{tags_hold, tags_result}
+use Rattle.derive_children.specs.Indexing.{indices_hold, indices_result, children_of}
 use Rattle.tables.proofs.Rooms as rooms
 use Rattle.derive_chains.proofs.TagsOutcome.{enough_tags}
 use Rattle.derive_children.proofs.IndicesOutcome.{enough_indices}
-use Rattle.derive_chains.specs.declared.tags.Tagged.{Tagged}
-use Rattle.derive_chains.specs.declared.tags.Tagged.TheVariants as tagged
-use Rattle.derive_children.specs.declared.indices.Indexed.{Indexed}
-use Rattle.derive_children.specs.declared.indices.Indexed.TheVariants as indexed
 use Rattle.tables.specs.Outcome.{derived as derived-matrices}
-use Rattle.derive_matrices.specs.Transforming.{matrices_hold, matrices_result, transformed_of, MatrixRows}
+use Rattle.derive_matrices.specs.Transforming.{matrices_hold, matrices_result, MatrixRows}
 use Rattle.derive_matrices.proofs.MatrixRoom.{holds-all}
-use Rattle.derive_matrices.specs.declared.matrices.Transformed.{Transformed}
-use Rattle.derive_matrices.specs.declared.matrices.Transformed.TheVariants as transformed
 use Rattle.write.specs.Names.{RowsHere}
 use Rattle.write.specs.Filling.{kids_of}
 use Rattle.write.specs.Outcome.{derived_in}
@@ -100,23 +95,23 @@ module _ (n : ℕ) (t : List ℕ) (x : Working) (here : RowsHere t n) where
   hold_tags = enough_tags n _ _ _ _ _ _ _ (length t) here.rows
 
   pub tags_stop :
-      {r : Tagged} {y : Refusal} → tagged_of r ≡ tags_result n (length t) (length x.buckets) (length x.entries) → r ≡
-      tagged.Refused y
+      {r : Result ℕ Refusal} {y : Refusal} → outcome r ≡ tags_result n (length t) (length x.buckets) (length x.entries) → r ≡
+      Err y
       → refused (number y) ≡ derived_in (room_in x) n t
   unfolding derived
   tags_stop {r} {y} e q =
       let k = call_refused n (tags_hold n (length t) (length x.buckets) (length x.entries)) (bucket_count n) (number y)
       here.few
-      (ap tagged_of (sym q) ∙ e) in
+      (ap outcome (sym q) ∙ e) in
       stops (lacks _ hold_tags k.0) k.1
 
   pub tags_room :
-      {r : Tagged} {c : ℕ} → tagged_of r ≡ tags_result n (length t) (length x.buckets) (length x.entries) → r ≡ tagged.Done c
+      {r : Result ℕ Refusal} {c : ℕ} → outcome r ≡ tags_result n (length t) (length x.buckets) (length x.entries) → r ≡ Ok c
       → tags_hold n (length t) (length x.buckets) (length x.entries) ≡ true
   unfolding derived
   tags_room {r} {c} e q =
       (call_done n (tags_hold n (length t) (length x.buckets) (length x.entries)) (bucket_count n) c here.few (ap
-      tagged_of (sym q) ∙ e)).0
+      outcome (sym q) ∙ e)).0
 
   -- ---- `build_transformations`
 
@@ -124,20 +119,20 @@ module _ (n : ℕ) (t : List ℕ) (x : Working) (here : RowsHere t n) where
   hold_matrices h = holds-all n (length t) (length x.inverse) (length x.local) here.rows h.inverse h.local
 
   pub matrices_stop :
-      {r : Transformed} {y : Refusal} → transformed_of r ≡ matrices_result n (length t) (length x.inverse) (length x.local)
-      → r ≡ transformed.Refused y → refused (number y) ≡ derived_in (room_in x) n t
+      {r : Result (Unit {0}) Refusal} {y : Refusal} → outcome r ≡ matrices_result n (length t) (length x.inverse) (length x.local)
+      → r ≡ Err y → refused (number y) ≡ derived_in (room_in x) n t
   unfolding derived-matrices
   matrices_stop {r} {y} e q =
       let k = call_refused n (matrices_hold n (length t) (length x.inverse) (length x.local)) tt (number y) here.few
-      (ap transformed_of (sym q) ∙ e) in
+      (ap outcome (sym q) ∙ e) in
       stops (lacks _ hold_matrices k.0) k.1
 
   pub matrices_room :
-      {r : Transformed} → transformed_of r ≡ matrices_result n (length t) (length x.inverse) (length x.local)
-      → r ≡ transformed.Done → matrices_hold n (length t) (length x.inverse) (length x.local) ≡ true
+      {r : Result (Unit {0}) Refusal} → outcome r ≡ matrices_result n (length t) (length x.inverse) (length x.local)
+      → r ≡ Ok tt → matrices_hold n (length t) (length x.inverse) (length x.local) ≡ true
   unfolding derived-matrices
   matrices_room {r} e q =
-      (call_done n (matrices_hold n (length t) (length x.inverse) (length x.local)) tt tt here.few (ap transformed_of
+      (call_done n (matrices_hold n (length t) (length x.inverse) (length x.local)) tt tt here.few (ap outcome
       (sym q) ∙ e)).0
 
   -- ---- `build_indices`
@@ -152,18 +147,18 @@ module _ (n : ℕ) (t : List ℕ) (x : Working) (here : RowsHere t n) where
   hold_indices = enough_indices n _ _ _ _ _ _ _ (length t) here.rows
 
   pub indices_stop :
-      {r : Indexed} {y : Refusal} → indexed_of r ≡ indices_give → r ≡ indexed.Refused y → refused (number y) ≡ derived_in (room_in
+      {r : Result ℕ Refusal} {y : Refusal} → outcome r ≡ indices_give → r ≡ Err y → refused (number y) ≡ derived_in (room_in
       x) n t
   unfolding derived
   indices_stop {r} {y} e q =
-      let k = call_refused n indices_room (length (children_of n t)) (number y) here.few (ap indexed_of (sym q) ∙ e) in
+      let k = call_refused n indices_room (length (children_of n t)) (number y) here.few (ap outcome (sym q) ∙ e) in
       stops (lacks _ hold_indices k.0) k.1
 
   pub indices_room_lem :
-      {r : Indexed} {k : ℕ} → indexed_of r ≡ indices_give → r ≡ indexed.Done k → (indices_room ≡ true) × (k ≡ length (children_of n
+      {r : Result ℕ Refusal} {k : ℕ} → outcome r ≡ indices_give → r ≡ Ok k → (indices_room ≡ true) × (k ≡ length (children_of n
       t))
   unfolding derived
-  indices_room_lem {r} {k} e q = call_done n indices_room (length (children_of n t)) k here.few (ap indexed_of (sym q) ∙ e)
+  indices_room_lem {r} {k} e q = call_done n indices_room (length (children_of n t)) k here.few (ap outcome (sym q) ∙ e)
 
   -- ---- all three
 
@@ -199,10 +194,10 @@ module _ (n : ℕ) (t : List ℕ) (x : Working) (here : RowsHere t n) where
 
   -- what the calls left, where none refused
   pub all-derived :
-      {r₁ : Tagged} {c : ℕ} {r₂ : Transformed} {r₃ : Indexed} {k : ℕ} (y : Working)
-      (e₁ : tagged_of r₁ ≡ tags_result n (length t) (length x.buckets) (length x.entries)) (q₁ : r₁ ≡ tagged.Done c)
-      (e₂ : transformed_of r₂ ≡ matrices_result n (length t) (length x.inverse) (length x.local)) (q₂ : r₂ ≡ transformed.Done)
-      (e₃ : indexed_of r₃ ≡ indices_give) (q₃ : r₃ ≡ indexed.Done k)
+      {r₁ : Result ℕ Refusal} {c : ℕ} {r₂ : Result (Unit {0}) Refusal} {r₃ : Result ℕ Refusal} {k : ℕ} (y : Working)
+      (e₁ : outcome r₁ ≡ tags_result n (length t) (length x.buckets) (length x.entries)) (q₁ : r₁ ≡ Ok c)
+      (e₂ : outcome r₂ ≡ matrices_result n (length t) (length x.inverse) (length x.local)) (q₂ : r₂ ≡ Ok tt)
+      (e₃ : outcome r₃ ≡ indices_give) (q₃ : r₃ ≡ Ok k)
       → Same y
       → y.buckets ≡ leaves (tags_result n (length t) (length x.buckets) (length x.entries)) (bucket_rows (tags (bones_of n
       t))) (length x.buckets)
@@ -216,12 +211,12 @@ module _ (n : ℕ) (t : List ℕ) (x : Working) (here : RowsHere t n) where
   all-derived {r₁} {c} {r₂} {r₃} {k} y e₁ q₁ e₂ q₂ e₃ q₃ s hb he hm hp hc =
       let i = indices_room_lem e₃ q₃ in
       let room = enough (tags_room e₁ q₁) (matrices_room e₂ q₂) i.0 in
-      let b = rw (← (ap tagged_of (sym q₁) ∙ e₁)) at hb in
-      let e = rw (← (ap tagged_of (sym q₁) ∙ e₁)) at he in
-      let v = rw (← (ap transformed_of (sym q₂) ∙ e₂)) at hm.inverse in
-      let l = rw (← (ap transformed_of (sym q₂) ∙ e₂)) at hm.local in
-      let p = rw (← (ap indexed_of (sym q₃) ∙ e₃)) at hp in
-      let w = rw (← (ap indexed_of (sym q₃) ∙ e₃)) at hc in
+      let b = rw (← (ap outcome (sym q₁) ∙ e₁)) at hb in
+      let e = rw (← (ap outcome (sym q₁) ∙ e₁)) at he in
+      let v = rw (← (ap outcome (sym q₂) ∙ e₂)) at hm.inverse in
+      let l = rw (← (ap outcome (sym q₂) ∙ e₂)) at hm.local in
+      let p = rw (← (ap outcome (sym q₃) ∙ e₃)) at hp in
+      let w = rw (← (ap outcome (sym q₃) ∙ e₃)) at hc in
       record {
         answer = rw (rooms.enough_derives n _ _ _ _ _ _ _ room, i.1);
         rows =

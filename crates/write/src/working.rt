@@ -4,11 +4,11 @@ ghost use Rattle.write.specs.Working.{Derives};
 ghost use Rattle.tables.specs.Working.{working, Zeroed};
 ghost use Rattle.write.specs.Names.{RowsHere};
 
-use derive_chains::tags::{Tagged, build_bone_tags};
-use derive_children::indices::{Indexed, build_indices};
-use derive_matrices::matrices::{Transformed, build_transformations};
+use derive_chains::tags::build_bone_tags;
+use derive_children::indices::build_indices;
+use derive_matrices::matrices::build_transformations;
 use format::Refusal;
-use tables::{clear16, clear32};
+use tables::clear;
 
 #[derive(Clone, Copy)]
 pub enum Derived {
@@ -37,16 +37,16 @@ pub(crate) fn derive_tables(
         (working buckets.new entries.new inverse.new local.new
         parents.new children.new pending.new) }
 {
-    if let Transformed::Refused(r) = build_transformations(bones, n, inverse, local) {
+    if let Err(r) = build_transformations(bones, n, inverse, local) {
         return Derived::Refused(r);
     }
     let count = match build_indices(bones, n, parents, children, pending) {
-        Indexed::Done(k) => k,
-        Indexed::Refused(r) => return Derived::Refused(r),
+        Ok(k) => k,
+        Err(r) => return Derived::Refused(r),
     };
     match build_bone_tags(bones, n, buckets, entries) {
-        Tagged::Refused(r) => Derived::Refused(r),
-        Tagged::Done(_) => Derived::Children(count),
+        Err(r) => Derived::Refused(r),
+        Ok(_) => Derived::Children(count),
     }
 }
 
@@ -66,11 +66,11 @@ pub(crate) fn clear_tables(
         (working buckets.new entries.new inverse.new local.new
         parents.new children.new pending.new) }
 {
-    clear32(buckets);
-    clear32(entries);
-    clear32(inverse);
-    clear32(local);
-    clear16(parents);
-    clear16(children);
-    clear32(pending);
+    clear(buckets);
+    clear(entries);
+    clear(inverse);
+    clear(local);
+    clear(parents);
+    clear(children);
+    clear(pending);
 }

@@ -12,8 +12,8 @@ returns c =
           c.chains_judged-r.ensures.answer c.build_bone_tags-derived.ensures.answer c.build_bone_tags-derived.ensures.buckets
           c.build_bone_tags-derived.ensures.entries;
       work = (
-        c.clear32.ensures.rows ∙ ap cleared c.build_bone_tags-derived.auto.buckets,
-        c.clear32-2.ensures.rows ∙ ap cleared
+        c.clear.ensures.rows ∙ ap cleared c.build_bone_tags-derived.auto.buckets,
+        c.clear-2.ensures.rows ∙ ap cleared
             c.build_bone_tags-derived.auto.entries,
       );
     }

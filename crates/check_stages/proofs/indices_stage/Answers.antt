@@ -12,8 +12,8 @@ returns c =
           c.indices_judged-r.ensures.answer c.build_indices-derived.ensures.answer c.build_indices-derived.ensures.parents
           c.build_indices-derived.ensures.children;
       work = (
-        c.clear16.ensures.rows ∙ ap cleared c.build_indices-derived.auto.parents,
-        c.clear16-2.ensures.rows ∙ ap cleared
+        c.clear.ensures.rows ∙ ap cleared c.build_indices-derived.auto.parents,
+        c.clear-2.ensures.rows ∙ ap cleared
             c.build_indices-derived.auto.children,
         c.build_indices-derived.ensures.pending,
       );

@@ -1,19 +1,19 @@
 -- `check_stages::matrices_judged` meets its contract. Assumes nothing.
 use mathlib.Core.Path.{ap}
 use native.Mathlib.Omega.{arith}
-use Rattle.derive_matrices.specs.Transforming.{transformed_of}
+use Rattle.format.specs.Refusal.{outcome}
 use Rattle.check_stages.proofs.Stages.{matrices_refused, inverse_differs, local_differs, matrices_same}
 use mathlib.Core.Bool.{not}
 use Rattle.check_stages.proofs.matrices_judged.Goals as goal
 
 pub overflow_mul-words : goal.overflow_mul-words
-overflow_mul-words c = omega (arith, c.requires (ap transformed_of c.in-Done.is))
+overflow_mul-words c = omega (arith, c.requires (ap outcome c.in-Ok.is))
 
 pub returns-then-not-same_words : goal.returns-then-not-same_words
 returns-then-not-same_words c =
     record {
       answer =
-          inverse_differs _ _ _ _ _ _ _ (ap transformed_of c.in-Done.is) c.same_words.ensures.answer
+          inverse_differs _ _ _ _ _ _ _ (ap outcome c.in-Ok.is) c.same_words.ensures.answer
           (ap not c.if-not-same_words.true);
     }
 
@@ -21,19 +21,19 @@ pub returns-then-not-same_words-2 : goal.returns-then-not-same_words-2
 returns-then-not-same_words-2 c =
     record {
       answer =
-          local_differs _ _ _ _ _ _ _ (ap transformed_of c.in-Done.is) c.same_words.ensures.answer
+          local_differs _ _ _ _ _ _ _ (ap outcome c.in-Ok.is) c.same_words.ensures.answer
           (ap not c.if-not-same_words.false)
-          c.same_words-in-Done.ensures.answer (ap not c.if-not-same_words-2.true);
+          c.same_words-in-Ok.ensures.answer (ap not c.if-not-same_words-2.true);
     }
 
-pub returns-in-Refused : goal.returns-in-Refused
-returns-in-Refused c = record { answer = matrices_refused _ _ _ _ _ _ _ (ap transformed_of c.in-Refused.is) }
+pub returns-in-Err : goal.returns-in-Err
+returns-in-Err c = record { answer = matrices_refused _ _ _ _ _ _ _ (ap outcome c.in-Err.is) }
 
 pub returns-else-not-same_words-2 : goal.returns-else-not-same_words-2
 returns-else-not-same_words-2 c =
     record {
       answer =
-          matrices_same _ _ _ _ _ _ _ (ap transformed_of c.in-Done.is) c.same_words.ensures.answer
+          matrices_same _ _ _ _ _ _ _ (ap outcome c.in-Ok.is) c.same_words.ensures.answer
           (ap not c.if-not-same_words.false)
-          c.same_words-in-Done.ensures.answer (ap not c.if-not-same_words-2.false);
+          c.same_words-in-Ok.ensures.answer (ap not c.if-not-same_words-2.false);
     }

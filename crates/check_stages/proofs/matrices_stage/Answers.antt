@@ -16,8 +16,8 @@ returns c =
           c.args.dlocal.now c.matrices_judged-r.ensures.answer c.build_transformations-derived.ensures.answer
           c.build_transformations-derived.ensures.rows;
       work = (
-        c.clear32.ensures.rows ∙ ap cleared c.build_transformations-derived.auto.inverse,
-        c.clear32-2.ensures.rows ∙ ap
+        c.clear.ensures.rows ∙ ap cleared c.build_transformations-derived.auto.inverse,
+        c.clear-2.ensures.rows ∙ ap
             cleared c.build_transformations-derived.auto.local,
       );
     }

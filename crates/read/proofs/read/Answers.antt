@@ -9,7 +9,7 @@ pub returns-in-Ok : goal.returns-in-Ok
 returns-in-Ok c =
     record {
       tables =
-          read_done _ _ _ c.if-root-eq0.false c.clear_all.ensures c.fill.ensures _ c.in-Ok.is c.fill.auto.pool c.clear64.ensures.rows;
+          read_done _ _ _ c.if-root-eq0.false c.clear_all.ensures c.fill.ensures _ c.in-Ok.is c.fill.auto.pool c.clear.ensures.rows;
     }
 
 pub returns-in-Err : goal.returns-in-Err

@@ -1,10 +1,9 @@
 -- Each turn enters one position more.
-use Prim.Native.Nat.{◌≤◌, ◌<◌}
+use Prim.Native.Nat.{◌<◌}
 use native.Mathlib.Omega.{arith}
 use mathlib.Core.Path.{sym}
 use Rattle.format.specs.Section.{Place}
 use Rattle.format.specs.Bone.{Bone}
-use Rattle.format.specs.Chains.{entry_count}
 use Rattle.rows.proofs.Rows.{get_or_column, length_column}
 use Rattle.derive_chains.proofs.Counts.{entries_le}
 use Rattle.derive_chains.proofs.Tagging.{entering_none, entering_asks, entering_more, entering_all}

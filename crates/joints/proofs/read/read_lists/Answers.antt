@@ -17,7 +17,7 @@ read_limits-second-requires c = c.requires.translation
 pub returns-in-Refused-second : goal.returns-in-Refused-second
 returns-in-Refused-second c =
     lists-second _ c.args.h c.read_limits-first.ensures c.in_default.is c.read_limits-second.ensures
-    c.in-Refused-second.is c.clear32.ensures.rows (search rules)
+    c.in-Refused-second.is c.clear.ensures.rows (search rules)
 
 pub returns : goal.returns
 returns c =
