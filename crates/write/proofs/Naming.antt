@@ -4,7 +4,7 @@ use mathlib.Core.Path.{◌≡◌, refl, sym, ap, ◌∙◌}
 use mathlib.Core.Bool.{Bool, true, false, not, ◌&&◌, ◌||◌}
 use mathlib.Core.Logic.{⊎_elim}
 use Rattle.std.specs.Prelude.{Option, None, Some}
-use mathlib.Core.List.{List, [], ◌∷◌, ◌++◌, flat_map}
+use mathlib.Core.List.{List, [], ◌∷◌, ◌++◌, map, flat_map}
 use Prim.Native.Nat.{ℕ, ◌+◌, ◌-◌, ◌*◌, ◌≤◌, ◌<◌}
 use native.Mathlib.Nat.{sub-zero, zero-add}
 use native.Mathlib.Numerals.{add-one}
@@ -12,12 +12,12 @@ use native.Mathlib.Omega.{arith}
 use borrow.Author.Tests.{le-leb, lt-leb, leb-true}
 use lib.Dec.{leb, eqb}
 use lib.ListN.{length, get_or, take, drop, replicate, length-append, length-drop, drop_of_length-le, get_or-replicate, get_or-append}
-use lib.Seq.{sets, drop-cons, length-take-le, get_or-append-add}
+use lib.Seq.{sets, drop-cons, length-take-le, get_or-append-add, get_or-take}
 use Rattle.format.specs.Result.{Res, refused, done, ◌>>=◌, need}
 use Rattle.format.specs.declared.Refusal.{Refusal}
 use Rattle.format.specs.Section.{Section, Spot, Place, spot, part, or_none, name_bytes}
 use Rattle.format.specs.Bone.{map_name}
-use Rattle.format.specs.Rows.{bone_of, bones_of}
+use Rattle.format.specs.Rows.{bone_of}
 use Rattle.format.specs.Layout.{ended_name, all_names}
 use Rattle.format.specs.Write.{no_zero, good_part, good_name, good_names, named}
 use Rattle.tables.proofs.Outcome.{both_true}
@@ -29,10 +29,10 @@ use Rattle.blocks.proofs.Cases.{le-or-lt}
 use Rattle.rows.specs.Value.{our_place}
 use Rattle.format.specs.declared.Place as our
 use Rattle.write.specs.Records.{takes, takes_all, ShortName}
-use Rattle.write.specs.Names.{name_in, names_result, chunk_mask, StoredTo, NamesRoom}
+use Rattle.write.specs.Names.{name_in, names_result, StoredTo}
 use Rattle.fields.proofs.RunLaws.{length_part as length_cut, part-word, Left, left-none, left-all}
-use Rattle.write.proofs.Runs.{just_stored, left-past}
-use Rattle.write.proofs.Bones.{name-none, name-some, row_bone_lem, row-whole, bones-next}
+use Rattle.write.proofs.Runs.{just_stored, left-past, sets_whole}
+use Rattle.write.proofs.Bones.{name-none, name-some, rows-next}
 
 -- ---- bytes without a zero
 
@@ -60,35 +60,22 @@ pub passed_none : (s : List ℕ) → Passed s 0 true
 passed_none s = record { same = refl }
 
 pub passed-more :
-    (s : List ℕ) (at k : ℕ) {i : ℕ} {good : Bool} → at + k ≤ length s → Passed (take k (drop at s)) i good → i < k
-    → Passed (take k (drop at s)) (i + 1) (good && not (eqb (get_or s (at + i) 0) 0))
+    (s : List ℕ) {i : ℕ} {good : Bool} → Passed s i good → i < length s → Passed s (i + 1) (good && not (eqb (get_or s i 0) 0))
 unfolding no_zero
-passed-more s at k {i} {good} r h l =
-    let w = take k (drop at s) in
-    let m : i < length w = rw (length_cut s at k r) l in
-    let e : no_zero (drop i w) ≡ (not (eqb (get_or s (at + i) 0) 0) && no_zero (drop (i + 1) w)) =
-    rw (drop-cons w i 0 m, ← part-word s at k i l, add-one) in
-    record { same = h.same ∙ rw e (sym (and_assoc good (not (eqb (get_or s (at + i) 0) 0)) (no_zero (drop (i + 1) w)))) }
+passed-more s {i} {good} h l =
+    let e : no_zero (drop i s) ≡ (not (eqb (get_or s i 0) 0) && no_zero (drop (i + 1) s)) = rw (drop-cons s i 0 l, add-one) in
+    record { same = h.same ∙ rw e (sym (and_assoc good (not (eqb (get_or s i 0) 0)) (no_zero (drop (i + 1) s)))) }
 
-pub passed-all :
-    (s : List ℕ) (at k : ℕ) {i : ℕ} {good : Bool} → at + k ≤ length s → Passed (take k (drop at s)) i good → k ≤ i
-    → good ≡ no_zero (take k (drop at s))
+pub passed-all : (s : List ℕ) {i : ℕ} {good : Bool} → Passed s i good → length s ≤ i → good ≡ no_zero s
 unfolding no_zero
-passed-all s at k {i} {good} r h l =
-    let m : length (take k (drop at s)) ≤ i = rw (length_cut s at k r) l in
-    sym (h.same ∙ rw (drop_of_length-le (take k (drop at s)) m) (and-true good))
+passed-all s {i} {good} h l = sym (h.same ∙ rw (drop_of_length-le s l) (and-true good))
 
-pub mask_made : {m : List ℕ} → m ≡ sets (replicate 64 1) 0 (replicate 32 0) → m ≡ chunk_mask
-unfolding chunk_mask
-mask_made e = e
-
-pub length_mask : {m : List ℕ} → m ≡ chunk_mask → length m ≡ 64
-unfolding chunk_mask
-length_mask e = ap length e
+-- zeros, then ones
+abbrev pub chunk_mask : List ℕ
+chunk_mask = replicate 32 0 ++ replicate 32 1
 
 -- the mask: zeros over the k bytes, ones behind them
 mask_zero : (k i : ℕ) → k ≤ 32 → i < k → get_or chunk_mask (32 - k + i) 0 ≡ 0
-unfolding chunk_mask
 mask_zero k i h l =
     let zeros : List ℕ = replicate 32 0 in
     let ones : List ℕ = replicate 32 1 in
@@ -96,7 +83,6 @@ mask_zero k i h l =
     get_or-append zeros ones 0 (32 - k + i) m ∙ get_or-replicate 32 (32 - k + i) 0 0 m
 
 mask_one : (k i : ℕ) → k ≤ 32 → k ≤ i → i < 32 → get_or chunk_mask (32 - k + i) 0 ≡ 1
-unfolding chunk_mask
 mask_one k i h l b =
     let zeros : List ℕ = replicate 32 0 in
     let ones : List ℕ = replicate 32 1 in
@@ -105,22 +91,23 @@ mask_one k i h l b =
 
 -- the loop goes on behind the k bytes, where the mask has ones
 pub near-more :
-    (s : List ℕ) (at k : ℕ) {mask : List ℕ} {i : ℕ} {good : Bool} → at + 32 ≤ length s → k ≤ 32 → mask ≡ chunk_mask
-    → Passed (take k (drop at s)) i good → i < 32
-    → Passed (take k (drop at s)) (i + 1)
-    (good && (not (eqb (get_or s (at + i) 0) 0) || not (eqb (get_or mask (32 - k + i) 0) 0)))
+    (s : List ℕ) (k : ℕ) {mask : List ℕ} {i : ℕ} {good : Bool} → 32 ≤ length s → k ≤ 32 → mask ≡ chunk_mask
+    → Passed (take k s) i good → i < 32
+    → Passed (take k s) (i + 1) (good && (not (eqb (get_or s i 0) 0) || not (eqb (get_or mask (32 - k + i) 0) 0)))
 unfolding no_zero
-near-more s at k {mask} {i} {good} r m q h l = ⊎_elim behind within (le-or-lt k i)
+near-more s k {mask} {i} {good} r m q h l = ⊎_elim behind within (le-or-lt k i)
   where
     w : List ℕ
-    w = take k (drop at s)
+    w = take k s
+
+    n : length w ≡ k
+    n = length-take-le k s (omega arith)
 
     a : Bool
-    a = not (eqb (get_or s (at + i) 0) 0)
+    a = not (eqb (get_or s i 0) 0)
 
     behind : k ≤ i → Passed w (i + 1) (good && (a || not (eqb (get_or mask (32 - k + i) 0) 0)))
     behind j =
-        let n : length w ≡ k = length_cut s at k (omega arith) in
         let e : drop i w ≡ [] = drop_of_length-le w {i = i} (omega (arith, n)) in
         let f : drop (i + 1) w ≡ [] = drop_of_length-le w {i = i + 1} (omega (arith, n)) in
         let o : not (eqb (get_or mask (32 - k + i) 0) 0) ≡ true = rw (q, mask_one k i m j l) in
@@ -130,13 +117,14 @@ near-more s at k {mask} {i} {good} r m q h l = ⊎_elim behind within (le-or-lt 
     within : i < k → Passed w (i + 1) (good && (a || not (eqb (get_or mask (32 - k + i) 0) 0)))
     within j =
         let o : not (eqb (get_or mask (32 - k + i) 0) 0) ≡ false = rw (q, mask_zero k i m j) in
-        rw (o, or-false a) (passed-more s at k (omega arith) h j)
+        let b : get_or w i 0 ≡ get_or s i 0 = get_or-take k s i 0 j in
+        rw (o, or-false a, ← b) (passed-more w h (omega (arith, n)))
 
 -- after the 32 bytes
 pub near-all :
-    (s : List ℕ) (at k : ℕ) {i : ℕ} {good : Bool} → at + 32 ≤ length s → k ≤ 32 → Passed (take k (drop at s)) i good → 32 ≤ i
-    → good ≡ no_zero (take k (drop at s))
-near-all s at k r m h l = passed-all s at k (omega arith) h (omega arith)
+    (s : List ℕ) (k : ℕ) {i : ℕ} {good : Bool} → 32 ≤ length s → k ≤ 32 → Passed (take k s) i good → 32 ≤ i
+    → good ≡ no_zero (take k s)
+near-all s k r m h l = passed-all (take k s) h (omega (arith, length-take-le k s (omega arith)))
 
 -- ---- good names and their sizes
 
@@ -196,67 +184,60 @@ module _ (lent : Section) (w : List ℕ) {p : our.Place} (e : p ≡ our_place (b
   pub good_long : (p.address ≡ 0 → ⊥) → 255 < p.size → false ≡ good_name lent (bone_of w).name
   good_long z h = rw (name-some w e z) (sym (long_bad lent p.address p.size h))
 
-  pub good-refused :
-      (p.address ≡ 0 → ⊥) → {r : Located} {x : Refusal} → Locates lent p.address p.size r → r ≡ Refused x
-      → false ≡ good_name lent (bone_of w).name
-  good-refused z l q = rw (name-some w e z, refused-part l q)
+  module _ (z : p.address ≡ 0 → ⊥) {r : Result (Bor (List ℕ)) Refusal}
+      (l : outcome_by (λ s. take p.size s.now) r ≡ part lent p.address p.size) where
+    pub good-refused : {x : Refusal} → r ≡ Err x → false ≡ good_name lent (bone_of w).name
+    good-refused q = rw (name-some w e z) (ap good_part (ap (outcome_by (λ s. take p.size s.now)) (sym q) ∙ l))
 
-  pub good-here :
-      (p.address ≡ 0 → ⊥) → p.size ≤ 255 → (o : ℕ) (half : List ℕ) {r : Bool} → part lent p.address p.size ≡ done (take
-      p.size (drop o half))
-      → r ≡ no_zero (take p.size (drop o half)) → r ≡ good_name lent (bone_of w).name
-  good-here z h o half q f = rw (name-some w e z) (f ∙ sym (short-good lent p.address p.size _ h q))
+    pub good-here :
+        {s : Bor (List ℕ)} {g : Bool} → r ≡ Ok s → p.size ≤ 255 → g ≡ no_zero (take p.size s.now) → g ≡ good_name lent (bone_of w).name
+    good-here {s} q h f =
+        rw (name-some w e z) (f ∙ sym (short-good lent p.address p.size _ h (sym l ∙ ap (outcome_by (λ s. take p.size s.now)) q)))
 
 -- ---- the loop that measures
 
-pub record Measuring (lent : Section) (t : List ℕ) (n p total : ℕ) : Type 0 where
-  pub high : p ≤ n
-  pub good : good_names lent (bones_of n t) ≡ good_names lent (bones_of (n - p) (drop (21 * p) t))
-  pub counts : total + takes_all (bones_of (n - p) (drop (21 * p) t)) ≡ takes_all (bones_of n t)
+-- the first p rows are measured
+pub record Measuring (lent : Section) (rows : List (List ℕ)) (p total : ℕ) : Type 0 where
+  pub good : good_names lent (map bone_of rows) ≡ good_names lent (map bone_of (drop p rows))
+  pub counts : total + takes_all (map bone_of (drop p rows)) ≡ takes_all (map bone_of rows)
   pub small : total ≤ 256 * p
 
-pub measuring_none : (lent : Section) (t : List ℕ) (n : ℕ) → Measuring lent t n 0 0
-measuring_none lent t n =
-    record { high = omega arith; good = simp sub-zero refl; counts = simp (sub-zero, zero-add) refl; small = omega arith }
+pub measuring_none : (lent : Section) (rows : List (List ℕ)) → Measuring lent rows 0 0
+measuring_none lent rows = record { good = refl; counts = zero-add _; small = omega arith }
 
-module _ {lent : Section} {t : List ℕ} {n p total : ℕ} (h : Measuring lent t n p total) where
-  module _ (l : p < n) {row : List ℕ} (er : row ≡ take 21 (drop (21 * p) t)) where
-    pub measuring_bad : {g : Bool} → g ≡ good_name lent (bone_of row).name → g ≡ false → refused 4 ≡ names_result lent (bones_of n t)
+module _ {lent : Section} {rows : List (List ℕ)} {p total : ℕ} (h : Measuring lent rows p total) where
+  module _ (l : p < length rows) {row : List ℕ} (er : row ≡ get_or rows p row) where
+    pub measuring_bad : {g : Bool} → g ≡ good_name lent (bone_of row).name → g ≡ false
+        → refused 4 ≡ names_result lent (map bone_of rows)
     unfolding good_names names_result
     measuring_bad {g} e f =
-        let b : good_name lent (bone_of (drop (21 * p) t)).name ≡ false = rw (row_bone_lem t p er) at (sym e ∙ f) in
-        rw (h.good, bones-next t n p l, b)
+        let b : good_name lent (bone_of row).name ≡ false = sym e ∙ f in
+        rw (h.good, rows-next rows p l er, b)
 
     module _ {g : Bool} (e : g ≡ good_name lent (bone_of row).name) (f : g ≡ true) where
-      good-row : good_name lent (bone_of (drop (21 * p) t)).name ≡ true
-      good-row = rw (row_bone_lem t p er) at (sym e ∙ f)
+      good-row : good_name lent (bone_of row).name ≡ true
+      good-row = sym e ∙ f
 
-      pub measuring_short : 21 * n ≤ length t → ShortName row
-      measuring_short r =
-          record {
-            whole = omega (arith, row-whole t p er (omega (arith, r)));
-            short = rw (row_bone_lem t p er) (good-takes lent (bone_of (drop (21 * p) t)).name good-row).1;
-          }
+      pub measuring_short : ShortName row
+      measuring_short = (good-takes lent (bone_of row).name good-row).1
 
-      pub measuring_more : {m : ℕ} → m ≡ takes (bone_of row).name → Measuring lent t n (p + 1) (total + m)
+      pub measuring_more : {m : ℕ} → m ≡ takes (bone_of row).name → Measuring lent rows (p + 1) (total + m)
       unfolding good_names takes_all
-      measuring_more {m} em' =
-          let nb = bones-next t n p l in
-          let em : m ≡ takes (bone_of (drop (21 * p) t)).name = rw (row_bone_lem t p er) at em' in
+      measuring_more {m} em =
+          let nb = rows-next rows p l er in
           record {
-            high = omega arith;
             good = h.good ∙ rw (nb, good-row);
             counts = omega (arith, em, rw nb at h.counts);
-            small = omega (arith, em, h.small, (good-takes lent (bone_of (drop (21 * p) t)).name good-row).1);
+            small = omega (arith, em, h.small, (good-takes lent (bone_of row).name good-row).1);
           }
 
-  pub measuring_all : n ≤ p → done total ≡ names_result lent (bones_of n t)
-  unfolding good_names names_result takes_all bones_of
+  pub measuring_all : length rows ≤ p → done total ≡ names_result lent (map bone_of rows)
+  unfolding good_names names_result takes_all
   measuring_all l =
-      let z : n - p ≡ 0 = omega arith in
-      let g : good_names lent (bones_of n t) ≡ true = rw z at h.good in
-      let k : total + 0 ≡ takes_all (bones_of n t) = rw z at h.counts in
-      let m : total ≡ takes_all (bones_of n t) = omega (arith, k) in
+      let z : drop p rows ≡ [] = drop_of_length-le rows l in
+      let g : good_names lent (map bone_of rows) ≡ true = rw z at h.good in
+      let k : total + 0 ≡ takes_all (map bone_of rows) = rw z at h.counts in
+      let m : total ≡ takes_all (map bone_of rows) = omega (arith, k) in
       rw (g, m)
 
 -- ---- one name stored
@@ -271,65 +252,56 @@ module _ (lent : Section) (w : List ℕ) {p : our.Place} (e : p ≡ our_place (b
       let l : length (name_in lent w) ≡ 0 = rw n in
       (omega (arith, l), just_stored limit d at (name_in lent w) room (rw n))
 
-  module _ (z : p.address ≡ 0 → ⊥) (half : List ℕ) (o k : ℕ) (stand : o + k ≤ length half)
-      (q : or_none (part lent p.address p.size) ≡ take k (drop o half)) where
-    name-is : name_in lent w ≡ take k (drop o half) ++ 0 ∷ []
+  -- a name's bytes x, the first k of some
+  module _ (z : p.address ≡ 0 → ⊥) (s : List ℕ) (k : ℕ) (stand : k ≤ length s)
+      (q : or_none (part lent p.address p.size) ≡ take k s) where
+    name-is : name_in lent w ≡ take k s ++ 0 ∷ []
     unfolding ended_name name_bytes
     name-is = rw (name-some w e z, q)
 
     length-name : length (name_in lent w) ≡ k + 1
-    length-name = ap length name-is ∙ length-append (take k (drop o half)) (0 ∷ []) ∙ rw (length_cut half o k stand)
+    length-name = ap length name-is ∙ length-append (take k s) (0 ∷ []) ∙ rw (length-take-le k s stand)
 
     pub room-some : at + k + 1 ≤ limit
     room-some = omega (arith, room, length-name)
 
     pub stored_some :
-        {d d' : List ℕ} {r : ℕ} → r ≡ at + k + 1 → StoredTo limit d at (take k (drop o half) ++ 0 ∷ []) d'
+        {d d' : List ℕ} {r : ℕ} → r ≡ at + k + 1 → StoredTo limit d at (take k s ++ 0 ∷ []) d'
         → (r ≡ at + length (name_in lent w)) × StoredTo limit d at (name_in lent w) d'
     stored_some f h = (omega (arith, f, length-name), rw name-is h)
 
 -- ---- the loop that stores
 
-pub record Naming (lent : Section) (t : List ℕ) (n : ℕ) (d₀ : List ℕ) (at : ℕ) (d : List ℕ) (p to : ℕ) : Type 0 where
-  pub high : p ≤ n
-  pub left :
-      Left d₀ at (all_names (named lent (bones_of n t))) d to (all_names (named lent (bones_of (n - p) (drop (21 * p) t))))
+-- the names of the rows from p on are left
+pub record Naming (lent : Section) (rows : List (List ℕ)) (d₀ d : List ℕ) (p to : ℕ) : Type 0 where
+  pub left : Left d₀ 0 (all_names (named lent (map bone_of rows))) d to (all_names (named lent (map bone_of (drop p rows))))
 
-pub naming-none : (lent : Section) (t : List ℕ) (n : ℕ) (d : List ℕ) (at : ℕ) → Naming lent t n d at d 0 at
-naming-none lent t n d at = record { high = omega arith; left = simp sub-zero (left-none d at _) }
+pub naming-none : (lent : Section) (rows : List (List ℕ)) (d : List ℕ) → Naming lent rows d d 0 0
+naming-none lent rows d = record { left = left-none d 0 _ }
 
-module _ {lent : Section} {t : List ℕ} {n : ℕ} {d₀ : List ℕ} {at : ℕ} {d : List ℕ} {p to : ℕ} (h : Naming lent t n d₀ at d p to)
-    (l : p < n) where
-  left-names :
-      Left d₀ at (all_names (named lent (bones_of n t))) d to
-      (name_in lent (drop (21 * p) t) ++ all_names (named lent (bones_of (n - (p + 1)) (drop (21 * (p + 1)) t))))
-  unfolding all_names flat_map
-  left-names = rw (bones-next t n p l) at h.left
+module _ {lent : Section} {rows : List (List ℕ)} {d₀ d : List ℕ} {p to : ℕ}
+    (r : length d₀ ≡ length (all_names (named lent (map bone_of rows)))) (h : Naming lent rows d₀ d p to) where
+  module _ (l : p < length rows) {row : List ℕ} (er : row ≡ get_or rows p row) where
+    left-names :
+        Left d₀ 0 (all_names (named lent (map bone_of rows))) d to
+        (name_in lent row ++ all_names (named lent (map bone_of (drop (p + 1) rows))))
+    unfolding all_names flat_map
+    left-names = rw (rows-next rows p l er) at h.left
 
-  module _ {end : ℕ} (r : NamesRoom lent t n at end (length d₀)) {row : List ℕ} (er : row ≡ take 21 (drop (21 * p) t)) where
-    row-name : name_in lent row ≡ name_in lent (drop (21 * p) t)
-    row-name = rw (row_bone_lem t p er)
-
-    pub naming-room : (to + length (name_in lent row) ≤ end) × (end ≤ length d)
+    pub naming-room : to + length (name_in lent row) ≤ length d
     naming-room =
-        let b = all_names (named lent (bones_of (n - (p + 1)) (drop (21 * (p + 1)) t))) in (
-          rw row-name
-              (omega (arith, r.ends, left-names.ends, length-append (name_in lent (drop (21 * p) t)) b)),
-          omega (arith, r.room, left-names.same),
-        )
+        let b = all_names (named lent (map bone_of (drop (p + 1) rows))) in
+        omega (arith, r, left-names.ends, left-names.same, length-append (name_in lent row) b)
 
     pub naming-more :
-        {d' : List ℕ} {to' : ℕ} → to' ≡ to + length (name_in lent row) → StoredTo end d to (name_in lent row) d'
-        → Naming lent t n d₀ at d' (p + 1) to'
+        {d' : List ℕ} {to' : ℕ} → to' ≡ to + length (name_in lent row) → StoredTo (length d) d to (name_in lent row) d'
+        → Naming lent rows d₀ d' (p + 1) to'
     naming-more {d'} {to'} et e =
-        let f : StoredTo end d to (name_in lent (drop (21 * p) t)) d' = rw row-name at e in
-        let k : to' ≡ to + length (name_in lent (drop (21 * p) t)) = rw row-name at et in
-        record { high = omega arith; left = rw k (left-past (name_in lent (drop (21 * p) t)) _ left-names (rw (← r.ends) at f)) }
+        let n : length d ≡ 0 + length (all_names (named lent (map bone_of rows))) = omega (arith, r, h.left.same) in
+        record { left = rw et (left-past (name_in lent row) _ left-names (rw n at e)) }
 
-pub naming-all :
-    {lent : Section} {t : List ℕ} {n : ℕ} {d₀ : List ℕ} {at : ℕ} {d : List ℕ} {p to : ℕ} → Naming lent t n d₀ at d p to → n ≤ p
-    → d ≡ sets d₀ at (all_names (named lent (bones_of n t)))
-unfolding bones_of all_names flat_map
-naming-all {n = n} {p = p} h l =
-    let z : n - p ≡ 0 = omega arith in
-    left-all (rw z at h.left)
+  pub naming-all : length rows ≤ p → d ≡ all_names (named lent (map bone_of rows))
+  unfolding all_names flat_map
+  naming-all l =
+      let z : drop p rows ≡ [] = drop_of_length-le rows l in
+      left-all (rw z at h.left) ∙ sets_whole _ d₀ r

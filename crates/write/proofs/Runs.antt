@@ -1,5 +1,5 @@
 -- Bytes stored one behind the other: what is left to store gives the whole (`Left` of `fields`). In order: stores that do not meet, and
--- those that overlap; bytes as they are; bytes stored up to a limit; what is left; zeros, as the loop stores them; a part with its fill.
+-- those that overlap; a part written whole; bytes stored up to a limit; what is left; a part with its fill.
 -- Assumes nothing.
 use mathlib.Core.Path.{◌≡◌, refl, sym, ap, ◌∙◌}
 use mathlib.Core.List.{List, [], ◌∷◌, ◌++◌, append-nil, append_assoc}
@@ -7,7 +7,9 @@ use Prim.Native.Nat.{ℕ, suc, ◌+◌, ◌-◌, ◌≤◌, ◌<◌}
 use native.Mathlib.Nat.{add-zero, sub-zero}
 use native.Mathlib.Omega.{arith}
 use lib.ListN.{length, take, drop, set, replicate, length-append, length-drop, take-append-drop, drop_of_length-le}
-use lib.Seq.{sets, length-sets, set-set, set_comm, take-take}
+use lib.Seq.{sets, length-sets, set-set, set_comm, take-take, length-take-le, drop-drop}
+use borrow.Rule.Slice.PartMut.{put_mid}
+use Rattle.std.proofs.lemmas.List.Edits.{sets-eq}
 use Rattle.format.specs.Layout.{fill, pad16}
 use Rattle.fields.proofs.Stores.{sets-append, part-sets-same}
 use Rattle.fields.proofs.RunLaws.{Left, left-none, left-all, left-more, length_part}
@@ -44,18 +46,23 @@ sets_over a b s i h =
     let e : b ++ drop (length b) a ≡ b = rw (drop_of_length-le a h) (append-nil b) in
     sets-onto a b s i ∙ ap (sets s i) e
 
--- ---- bytes as they are: k of s, from a place on
+-- ---- a part of a buffer, written whole
 
-module _ (s : List ℕ) (from k : ℕ) where
-  -- by a copy in b
-  pub copied :
-      (b₀ d : List ℕ) (at : ℕ) {b d' : List ℕ} → from + k ≤ length s → k ≤ length b₀ → b ≡ sets b₀ 0 (take k (drop from s))
-      → d' ≡ sets d at (take k b) → d' ≡ sets d at (take k (drop from s))
-  copied b₀ d at {b} {d'} h m e f =
-      let n = length_part s from k h in
-      let g = part-sets-same (take k (drop from s)) b₀ 0 (rw n (omega (arith, m))) in
-      let q : take k b ≡ take k (drop from s) = rw e (rw n at g) in
-      f ∙ rw q
+-- the k bytes from `at` on became x
+pub part-stored :
+    (d : List ℕ) (at k : ℕ) {y : List ℕ} (x : List ℕ) → y ≡ x → k ≡ length x → at + k ≤ length d
+    → put_mid at (at + k - at) d y ≡ sets d at x
+part-stored d at k x e f h =
+    let m : at + k - at ≡ length x = omega (arith, f) in
+    let n : at + length x ≤ length d = omega (arith, f) in
+    rw (e, m) (sym (sets-eq x d at n ∙ simp (append_assoc, drop-drop)))
+
+-- all of them
+pub sets_whole : (x d : List ℕ) → length d ≡ length x → sets d 0 x ≡ x
+sets_whole x d e =
+    let n : 0 + length x ≤ length d = omega (arith, e) in
+    let z : drop (0 + length x) d ≡ [] = drop_of_length-le d (omega (arith, e)) in
+    sets-eq x d 0 n ∙ rw z (append-nil x)
 
 -- ---- bytes stored, and perhaps others behind them, up to a limit
 
@@ -63,29 +70,27 @@ module _ (limit : ℕ) (d : List ℕ) (at : ℕ) where
   pub just_stored : (x : List ℕ) {d' : List ℕ} → at + length x ≤ limit → d' ≡ sets d at x → StoredTo limit d at x d'
   just_stored x r e = record { more = []; room = omega (arith, r); is = e ∙ ap (sets d at) (sym (append-nil x)) }
 
-  module _ (s : List ℕ) (from k : ℕ) where
+  module _ (s : List ℕ) (k : ℕ) (m : k ≤ length s) where
     -- more bytes than the k
     pub more-stored :
-        (j : ℕ) {d' : List ℕ} → k ≤ j → from + j ≤ length s → at + j ≤ limit → d' ≡ sets d at (take j (drop from s))
-        → StoredTo limit d at (take k (drop from s)) d'
-    more-stored j h m r e =
-        let w = take j (drop from s) in
-        let t : take k w ≡ take k (drop from s) = take-take k j (drop from s) h in
-        let c : w ≡ take k (drop from s) ++ drop k w = rw (← t) (sym (take-append-drop k w)) in
-        let l : length (take k (drop from s)) ≡ k = length_part s from k (omega arith) in
+        (j : ℕ) {d' : List ℕ} → k ≤ j → j ≤ length s → at + j ≤ limit → d' ≡ sets d at (take j s) → StoredTo limit d at (take k s) d'
+    more-stored j h n r e =
+        let w = take j s in
+        let t : take k w ≡ take k s = take-take k j s h in
+        let c : w ≡ take k s ++ drop k w = rw (← t) (sym (take-append-drop k w)) in
         record {
           more = drop k w;
-          room = omega (arith, r, h, l, length-drop k w, length_part s from j m);
+          room = omega (arith, r, h, length-take-le k s m, length-drop k w, length-take-le j s n);
           is = e ∙ ap (sets d at) c;
         }
 
     -- a zero behind the k bytes
     pub ended_stored :
-        {d' : List ℕ} → from + k ≤ length s → at + k + 1 ≤ limit → StoredTo limit d at (take k (drop from s)) d'
-        → StoredTo limit d at (take k (drop from s) ++ 0 ∷ []) (set d' (at + k) 0)
-    ended_stored {d'} m r h =
-        let x = take k (drop from s) in
-        let l : length x ≡ k = length_part s from k m in
+        {d' : List ℕ} → at + k + 1 ≤ limit → StoredTo limit d at (take k s) d'
+        → StoredTo limit d at (take k s ++ 0 ∷ []) (set d' (at + k) 0)
+    ended_stored {d'} r h =
+        let x = take k s in
+        let l : length x ≡ k = length-take-le k s m in
         let y : List ℕ = 0 ∷ [] in
         let e : set d' (at + k) 0 ≡ sets (sets (sets d at x) (at + length x) h.more) (at + length x) y =
         rw (h.is, sets-append x h.more d at, l) in
@@ -113,27 +118,6 @@ left-past {d₀} {whole} {d} {d'} {at} {to} x rest h e =
           ∙ sets_over e.more rest (sets d to x) (to + length x) m ∙ sym (sets-append x rest d to) ∙ h.is;
       ends = omega (arith, h.ends, n);
     }
-
--- ---- zeros
-
--- after i of n zeros
-pub record Zeros (d₀ : List ℕ) (at n : ℕ) (d : List ℕ) (i : ℕ) : Type 0 where
-  pub high : i ≤ n
-  pub left : Left d₀ at (replicate n 0) d (at + i) (replicate (n - i) 0)
-
-pub zeros_none : (d : List ℕ) (at n : ℕ) → Zeros d at n d 0
-zeros_none d at n = record { high = omega arith; left = simp (add-zero, sub-zero) (left-none d at (replicate n 0)) }
-
-pub zeros_more : {d₀ d : List ℕ} {at n i : ℕ} → Zeros d₀ at n d i → i < n → Zeros d₀ at n (set d (at + i) 0) (i + 1)
-zeros_more {d₀} {d} {at} {n} {i} h l =
-    let m : n - i ≡ suc (n - (i + 1)) = omega arith in
-    let t : at + i + 1 ≡ at + (i + 1) = omega arith in
-    record { high = omega arith; left = rw t at (left-more (0 ∷ []) (replicate (n - (i + 1)) 0) (rw m at h.left) refl) }
-
-pub zeros_all : {d₀ d : List ℕ} {at n i : ℕ} → Zeros d₀ at n d i → n ≤ i → d ≡ sets d₀ at (replicate n 0)
-zeros_all {d₀} {d} {at} {n} {i} h l =
-    let m : n - i ≡ 0 = omega arith in
-    left-all (rw m at h.left)
 
 -- ---- a part with its fill
 

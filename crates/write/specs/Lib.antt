@@ -5,4 +5,3 @@ pub mod Names
 pub mod Filling
 pub mod Outcome
 pub mod Working
-pub mod Tests

@@ -1,5 +1,5 @@
 -- Chains along the links of the derived rows, and the room that their entries want. Definitions only.
-use Rattle.std.specs.Prelude.{◌≡◌, ℕ, zero, suc, ◌+◌, ◌*◌, ◌≤◌, List, [], ◌∷◌, map, length, get_or, take}
+use Rattle.std.specs.Prelude.{◌≡◌, ℕ, zero, suc, ◌+◌, ◌*◌, ◌≤◌, List, [], ◌∷◌, map, length, get_or}
 use Rattle.std.proofs.lemmas.List.Edits.{sets}
 use Rattle.format.specs.Field.{word_bytes, Item, ◌⊳◌}
 use Rattle.format.specs.Chains.{Entry, entry_of}
@@ -31,20 +31,19 @@ pub record ChainRoom (rows : List ℕ) (link at size : ℕ) : Type 0 where
   pub room : at + 16 * length (linked rows link) ≤ size
   pub small : at + 16 * length (linked rows link) ≤ window
 
--- the chains of the first buckets
-abbrev pub chains_of : List ℕ → List ℕ → ℕ → List (List Entry)
-chains_of heads rows count = map (linked rows) (take count heads)
+-- the chains of some buckets
+abbrev pub chains_of : List ℕ → List ℕ → List (List Entry)
+chains_of heads rows = map (linked rows) heads
 
-pub record ChainsRoom (heads rows : List ℕ) (count at to size : ℕ) : Type 0 where
+pub record ChainsRoom (heads rows : List ℕ) (at to size : ℕ) : Type 0 where
   pub falls : LinksFall rows
   pub stands : (b : ℕ) → 3 * get_or heads b 0 ≤ length rows
-  pub buckets : count ≤ length heads
-  pub before : after at (8 * count) ≤ to
-  pub room : to + 16 * entry_total (chains_of heads rows count) ≤ size
-  pub small : to + 16 * entry_total (chains_of heads rows count) ≤ window
+  pub before : after at (8 * length heads) ≤ to
+  pub room : to + 16 * entry_total (chains_of heads rows) ≤ size
+  pub small : to + 16 * entry_total (chains_of heads rows) ≤ window
 
 -- the pointers with their fill, and the entries behind them
-pub record ChainsLaid (heads rows : List ℕ) (count at to : ℕ) (d₀ d : List ℕ) : Type 0 where
+pub record ChainsLaid (heads rows : List ℕ) (at to : ℕ) (d₀ d : List ℕ) : Type 0 where
   pub is :
-      let cs = chains_of heads rows count in
+      let cs = chains_of heads rows in
       d ≡ sets (sets d₀ at (pad16 (word_bytes 8 (pointers (base + to) cs)))) to (entry_bytes (base + to) cs)

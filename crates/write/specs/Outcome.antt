@@ -1,8 +1,9 @@
 -- What the writer answers and leaves (docs/FORMAT.md, "Who can cause a refusal": writing tests 2, 4, 1, 3, 5). Definitions only.
-use Rattle.std.specs.Prelude.{◌≡◌, ℕ, ◌*◌, List, length, leb}
+use Rattle.std.specs.Prelude.{◌≡◌, ℕ, ◌*◌, List, length, leb, Result}
 use Rattle.std.proofs.lemmas.List.Edits.{sets}
 use Rattle.format.specs.Result.{Res, refused, done, need, ◌>>=◌}
-use Rattle.format.specs.Refusal.{number}
+use Rattle.format.specs.Refusal.{outcome as answered}
+use Rattle.format.specs.declared.Refusal.{Refusal}
 use Rattle.format.specs.Section.{Section, Place}
 use Rattle.format.specs.Bone.{Bone, Words4}
 use Rattle.format.specs.Deriving.{DeriveRoom, derives}
@@ -12,8 +13,6 @@ use Rattle.format.specs.Write.{named, written}
 use Rattle.tables.specs.Outcome.{size_of}
 use Rattle.write.specs.Names.{names_result}
 use Rattle.write.specs.Filling.{kids_of}
-use Rattle.write.specs.declared.Written.{Written}
-use Rattle.write.specs.declared.Written.TheVariants as written_as
 
 -- ---- the outcome
 
@@ -25,18 +24,14 @@ outcome lent room size n t free = do
   u1 ← need 1 (leb (bone_width * n) (length t))
   written lent room size (bones_of n t) free
 
--- the code's answer as a result: the number of bytes
-abbrev pub written_of : Written → Res ℕ
-written_of (written_as.Done n) = done n
-written_of (written_as.Refused r) = refused (number r)
-
 -- the buffer: the section's own bytes at its front, and nothing else changed; after a refusal as it was
 abbrev pub write_leaves : Res Bytes → List ℕ → List ℕ
 write_leaves (refused c) out = out
 write_leaves (done b) out = sets out 0 b
 
-pub record Writes (w : Res Bytes) (r : Written) (out out' : List ℕ) : Type 0 where
-  pub answer : written_of r ≡ size_of w
+-- the number of bytes, and the buffer
+pub record Writes (w : Res Bytes) (r : Result ℕ Refusal) (out out' : List ℕ) : Type 0 where
+  pub answer : answered r ≡ size_of w
   pub buffer : out' ≡ write_leaves w out
 
 -- ---- its steps

@@ -1,10 +1,10 @@
 -- Bones and their names as the rows give them: the words of a bone's record, the bytes that names take. Definitions only.
-use Rattle.std.specs.Prelude.{ℕ, ◌+◌, ◌*◌, ◌/◌, ◌%◌, ◌≤◌, ◌<◌, List, [], ◌∷◌, ◌++◌, length, get_or, drop}
+use Rattle.std.specs.Prelude.{ℕ, ◌+◌, ◌*◌, ◌/◌, ◌%◌, ◌≤◌, ◌<◌, List, [], ◌∷◌, ◌++◌, length, get_or, map}
 use Rattle.std.specs.Prelude.{Option, None, Some}
 use Rattle.format.specs.Field.{◌⊳◌, lay}
 use Rattle.format.specs.Section.{Place}
 use Rattle.format.specs.Bone.{Bone}
-use Rattle.format.specs.Rows.{bone_width, bone_of, bones_of}
+use Rattle.format.specs.Rows.{bone_of}
 use Rattle.format.specs.Layout.{Bytes, pointer, bone_items, block_size}
 use Rattle.format.specs.Section.{window}
 
@@ -34,23 +34,23 @@ bone_record w at =
     get_or w 7 0 ∷ get_or w 8 0 ∷ get_or w 9 0 ∷ 0x3F80_0000 ∷ get_or w 10 0 ∷ 0 ∷ at ∷ 0 ∷
     get_or w 11 0 ∷ (get_or w 12 0 % 65536 + get_or w 11 0 / 65536 * 65536) ∷ 0 ∷ 0 ∷ []
 
--- a whole row whose name has at most 255 bytes
-pub record ShortName (row : List ℕ) : Type 0 where
-  pub whole : 21 ≤ length row
-  pub short : takes (bone_of row).name ≤ 256
+-- a row whose name has at most 255 bytes
+abbrev pub ShortName : List ℕ → Type 0
+ShortName row = takes (bone_of row).name ≤ 256
 
--- n rows in a table t, room for their records from `at` on in `size` bytes, and addresses for their names
-pub record BonesRoom (t : List ℕ) (n at names size : ℕ) : Type 0 where
-  pub rows : 21 * n ≤ length t
-  pub few : n ≤ 65535
-  pub short : (p : ℕ) → p < n → takes (bone_of (drop (bone_width * p) t)).name ≤ 256
-  pub room : at + 80 * n ≤ size
-  pub small : names + takes_all (bones_of n t) ≤ window
+-- rows with such names, at most 65,535 of them
+pub record ShortNames (rows : List (List ℕ)) : Type 0 where
+  pub few : length rows ≤ 65535
+  pub short : (p : ℕ) (d : List ℕ) → p < length rows → ShortName (get_or rows p d)
+
+-- room for the records of some rows from `at` on in `size` bytes, and addresses for their names
+pub record BonesRoom (rows : List (List ℕ)) (at names size : ℕ) : Type 0 where
+  pub names_short : ShortNames rows
+  pub room : at + 80 * length rows ≤ size
+  pub small : names + takes_all (map bone_of rows) ≤ window
 
 -- the same for the whole block
-pub record BlockRoom (t : List ℕ) (n at names size : ℕ) : Type 0 where
-  pub rows : 21 * n ≤ length t
-  pub few : n ≤ 65535
-  pub short : (p : ℕ) → p < n → takes (bone_of (drop (bone_width * p) t)).name ≤ 256
-  pub room : at + block_size n ≤ size
-  pub small : names + takes_all (bones_of n t) ≤ window
+pub record BlockRoom (rows : List (List ℕ)) (at names size : ℕ) : Type 0 where
+  pub names_short : ShortNames rows
+  pub room : at + block_size (length rows) ≤ size
+  pub small : names + takes_all (map bone_of rows) ≤ window

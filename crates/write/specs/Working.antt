@@ -1,8 +1,8 @@
 -- The derived tables of the writer: what they hold between deriving and filling. Definitions only.
-use Rattle.std.specs.Prelude.{◌≡◌, ℕ, ◌*◌, ◌≤◌, length}
+use Rattle.std.specs.Prelude.{◌≡◌, ℕ, ◌*◌, ◌≤◌, length, Result, OnOk}
 use mathlib.Core.List.{List, flat_map}
-use Rattle.format.specs.Result.{Res, refused, done}
-use Rattle.format.specs.Refusal.{number}
+use Rattle.format.specs.Refusal.{outcome}
+use Rattle.format.specs.declared.Refusal.{Refusal}
 use Rattle.format.specs.Chains.{bucket_count, entry_count}
 use Rattle.format.specs.Matrices.{inverses, locals}
 use Rattle.format.specs.Deriving.{tags, parents}
@@ -11,12 +11,6 @@ use Rattle.format.specs.Rows.{entry_words, laid, bones_of}
 use Rattle.tables.specs.Working.{Working, room_in}
 use Rattle.write.specs.Filling.{kids_of}
 use Rattle.write.specs.Outcome.{derived_in}
-use Rattle.write.specs.declared.working.Derived.{Derived}
-use Rattle.write.specs.declared.working.Derived.TheVariants.{Children, Refused}
-
-abbrev pub derived_of : Derived → Res ℕ
-derived_of (Children k) = done k
-derived_of (Refused r) = refused (number r)
 
 -- the tables hold what follows from the first n bones of t
 pub record DerivedRows (n : ℕ) (t : List ℕ) (x : Working) : Type 0 where
@@ -34,10 +28,6 @@ pub record DerivedRows (n : ℕ) (t : List ℕ) (x : Working) : Type 0 where
   pub children_are : x.children ≡ laid (kids_of (bones_of n t)) (length x.children)
 
 -- nothing is said of the tables after a refusal
-abbrev pub HeldBy : Derived → ℕ → List ℕ → Working → Type 0
-HeldBy (Children k) n t x = DerivedRows n t x
-HeldBy (Refused r) n t x = Unit
-
-pub record Derives (n : ℕ) (t : List ℕ) (r : Derived) (x₀ x : Working) : Type 0 where
-  pub answer : derived_of r ≡ derived_in (room_in x₀) n t
-  pub rows : HeldBy r n t x
+pub record Derives (n : ℕ) (t : List ℕ) (r : Result ℕ Refusal) (x₀ x : Working) : Type 0 where
+  pub answer : outcome r ≡ derived_in (room_in x₀) n t
+  pub rows : OnOk r (DerivedRows n t x)

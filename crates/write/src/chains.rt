@@ -16,8 +16,7 @@ fn put_entry(d: &mut [u8], at: usize, tag: u32, position: u32, link: u32)
     ensures bytes { d.new ≡ sets d.old at (lay (entry_items (base + (at + 16)) tag position link)) }
 {
     let next = pointer(at + format::ENTRY_SIZE, link as usize);
-    let w = [tag, position, next, 0];
-    put_words(d, at, &w);
+    put_words(d, at, &[tag, position, next, 0]);
 }
 
 // Stores the chain from a link on, and gives where it ends.
@@ -49,29 +48,19 @@ fn put_pointer(d: &mut [u8], at: usize, head: usize, link: u32)
     requires { (at + 8 ≤ length d.old) × (head ≤ window) }
     ensures bytes { d.new ≡ sets d.old at (bytes 8 (Layout.pointer (base + head) link)) }
 {
-    let w = [pointer(head, link as usize), 0];
-    put_words(d, at, &w);
+    put_words(d, at, &[pointer(head, link as usize), 0]);
 }
 
-// Stores the pointers of `count` buckets from `at` on, their fill behind them, and the entries from `to` on.
-pub(crate) fn put_chains(
-    d: &mut [u8],
-    at: usize,
-    to: usize,
-    count: usize,
-    buckets: &[u32],
-    entries: &[u32],
-)
-    requires { ChainsRoom buckets.now entries.now count at to (length d.old) }
-    ensures bytes { ChainsLaid buckets.now entries.now count at to d.old d.new }
+// Stores the pointers of some buckets from `at` on, their fill behind them, and the entries from `to` on.
+pub(crate) fn put_chains(d: &mut [u8], at: usize, to: usize, buckets: &[u32], entries: &[u32])
+    requires { ChainsRoom buckets.now entries.now at to (length d.old) }
+    ensures bytes { ChainsLaid buckets.now entries.now at to d.old d.new }
 {
-    let mut b = 0;
     let mut end = to;
-    while b < count {
-        let head = buckets[b];
-        put_pointer(d, at + 8 * b, end, head);
-        end = put_chain(d, end, entries, head);
-        b += 1;
+    for (b, head) in buckets.iter().enumerate() {
+        put_pointer(d, at + 8 * b, end, *head);
+        end = put_chain(d, end, entries, *head);
     }
-    put_zeros(d, at + 8 * count, fill(8 * count));
+    let size = 8 * buckets.len();
+    put_zeros(d, at + size, fill(size));
 }

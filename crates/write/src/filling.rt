@@ -1,8 +1,8 @@
 // The parts of a section filled where they start. The derived tables hold their rows.
-ghost use Rattle.std.specs.Prelude.{◌≡◌, ◌+◌, ◌*◌, ◌≤◌, length, take};
+ghost use Rattle.std.specs.Prelude.{◌≡◌, ◌+◌, ◌*◌, ◌≤◌, length, map};
 ghost use Rattle.std.proofs.lemmas.List.Edits.{sets};
 ghost use Rattle.format.specs.Field.{word_bytes};
-ghost use Rattle.format.specs.Rows.{bones_of};
+ghost use Rattle.format.specs.Rows.{bone_of};
 ghost use Rattle.format.specs.Layout.{base, after, pad16, all_names, layout};
 ghost use Rattle.format.specs.Write.{named};
 ghost use Rattle.blocks.specs.Places.{section};
@@ -17,12 +17,11 @@ use crate::names::put_names;
 use crate::skeleton::put_skeleton;
 use crate::starts::{Starts, fill};
 use crate::words::{put_halves, put_words, put_zeros};
-use format::Words4;
+use format::{BONE_WORDS, Words4};
 
-// How many there are of what.
+// How many there are of what, beside the bones.
 #[derive(Clone, Copy)]
 pub struct Sizes {
-    pub bones: usize,
     pub buckets: usize,
     // child entries
     pub children: usize,
@@ -41,74 +40,46 @@ fn put_list(d: &mut [u8], at: usize, h: &[u16])
 }
 
 // Stores the names, `size` bytes, and their fill.
-fn put_names_part<'a>(
-    d: &mut [u8],
-    at: usize,
-    size: usize,
-    bones: &[u32],
-    n: usize,
-    sys: &'a [u8],
-    gfx: &'a [u8],
-)
-    requires { NamesPart (section sys.now gfx.now) bones.now n at size (length d.old) }
+fn put_names_part(d: &mut [u8], at: usize, size: usize, bones: &[[u32; BONE_WORDS]], sys: &[u8], gfx: &[u8])
+    requires { NamesPart (section sys.now gfx.now) (map bone_of bones.now) at size (length d.old) }
     ensures bytes { let lent = section sys.now gfx.now in
-        d.new ≡ sets d.old at (pad16 (all_names (named lent (bones_of n bones.now)))) }
+        d.new ≡ sets d.old at (pad16 (all_names (named lent (map bone_of bones.now)))) }
 {
     let end = at + size;
-    put_names(d, at, end, bones, n, sys, gfx);
+    put_names(&mut d[at..end], bones, sys, gfx);
     put_zeros(d, end, fill(size));
 }
 
 // Stores the bones block and the names.
-fn fill_bones<'a>(
-    d: &mut [u8],
-    at: Starts,
-    size: usize,
-    bones: &[u32],
-    n: usize,
-    sys: &'a [u8],
-    gfx: &'a [u8],
-)
-    requires { BonesPart (meant_starts at) (section sys.now gfx.now) bones.now n size (length d.old) }
+fn fill_bones(d: &mut [u8], at: Starts, size: usize, bones: &[[u32; BONE_WORDS]], sys: &[u8], gfx: &[u8])
+    requires { BonesPart (meant_starts at) (section sys.now gfx.now) bones.now size (length d.old) }
     ensures bytes { let lent = section sys.now gfx.now in
-        d.new ≡ bones_stored (meant_starts at) lent (bones_of n bones.now) d.old }
+        d.new ≡ bones_stored (meant_starts at) lent (map bone_of bones.now) d.old }
 {
-    put_block(d, at.bones, at.names, bones, n);
-    put_names_part(d, at.names, size, bones, n, sys, gfx);
+    put_block(d, at.bones, at.names, bones);
+    put_names_part(d, at.names, size, bones, sys, gfx);
 }
 
-// Stores the matrices of n bones, their parents and k child entries.
-fn fill_lists(
-    d: &mut [u8],
-    at: Starts,
-    n: usize,
-    k: usize,
-    inverse: &[u32],
-    local: &[u32],
-    parents: &[u16],
-    children: &[u16],
-)
-    requires { ListsRoom (meant_starts at) n k inverse.now local.now parents.now children.now (length d.old) }
-    ensures bytes { d.new ≡
-        lists_stored (meant_starts at) (take (16 * n) inverse.now) (take (16 * n) local.now)
-        (take n parents.now) (take k children.now) d.old }
+// Stores matrices, parents and child entries.
+fn fill_lists(d: &mut [u8], at: Starts, inverse: &[u32], local: &[u32], parents: &[u16], children: &[u16])
+    requires { ListsRoom (meant_starts at) inverse.now local.now parents.now children.now (length d.old) }
+    ensures bytes { d.new ≡ lists_stored (meant_starts at) inverse.now local.now parents.now children.now d.old }
 {
-    let m = format::MATRIX_WORDS * n;
-    put_words(d, at.inverse, &inverse[..m]);
-    put_words(d, at.local, &local[..m]);
-    put_list(d, at.parents, &parents[..n]);
-    put_list(d, at.children, &children[..k]);
+    put_words(d, at.inverse, inverse);
+    put_words(d, at.local, local);
+    put_list(d, at.parents, parents);
+    put_list(d, at.children, children);
 }
 
 // Stores the whole section.
-pub(crate) fn fill_section<'a>(
+pub(crate) fn fill_section(
     d: &mut [u8],
     at: Starts,
     free: Words4,
     s: Sizes,
-    bones: &[u32],
-    sys: &'a [u8],
-    gfx: &'a [u8],
+    bones: &[[u32; BONE_WORDS]],
+    sys: &[u8],
+    gfx: &[u8],
     buckets: &[u32],
     entries: &[u32],
     inverse: &[u32],
@@ -119,13 +90,19 @@ pub(crate) fn fill_section<'a>(
     requires { PartsPlaced (meant_starts at) s (section sys.now gfx.now) bones.now buckets.now entries.now inverse.now local.now
         parents.now children.now (length d.old) }
     ensures bytes { let lent = section sys.now gfx.now in
-        let bs = bones_of s.bones bones.now in
-        d.new ≡ sets d.old 0 (layout (named lent bs) (meant_words4 free)) }
+        d.new ≡ sets d.old 0 (layout (named lent (map bone_of bones.now)) (meant_words4 free)) }
 {
-    put_skeleton(d, at, free, s.bones, s.buckets, s.children);
-    put_chains(d, at.buckets, at.entries, s.buckets, buckets, entries);
-    fill_bones(d, at, s.names, bones, s.bones, sys, gfx);
+    let n = bones.len();
+    let words = format::MATRIX_WORDS * n;
+    put_skeleton(d, at, free, n, s.buckets, s.children);
+    put_chains(d, at.buckets, at.entries, &buckets[..s.buckets], entries);
+    fill_bones(d, at, s.names, bones, sys, gfx);
     fill_lists(
-        d, at, s.bones, s.children, inverse, local, parents, children,
+        d,
+        at,
+        &inverse[..words],
+        &local[..words],
+        &parents[..n],
+        &children[..s.children],
     );
 }

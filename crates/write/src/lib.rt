@@ -21,22 +21,14 @@ use crate::outcome::attempt;
 use crate::working::clear_tables;
 use format::{Refusal, Words4};
 
-// The answer of the writer.
-#[derive(Clone, Copy)]
-pub enum Written {
-    // how many bytes were written, from the buffer's start on
-    Done(usize),
-    Refused(Refusal),
-}
-
 // Writes the section of the first n bones of a table, whose names lie in the lent halves, at the front of `out`, and gives its
 // length. Refuses 2, then 1 for the table of bones, 4, 1 for the working tables, 3, 5. On a refusal `out` is as it was; else only the
 // section's own bytes change. The working tables are zero after every call.
-pub fn write<'a>(
+pub fn write(
     bones: &[u32],
     n: usize,
-    sys: &'a [u8],
-    gfx: &'a [u8],
+    sys: &[u8],
+    gfx: &[u8],
     free: Words4,
     buckets: &mut [u32],
     entries: &mut [u32],
@@ -46,7 +38,7 @@ pub fn write<'a>(
     children: &mut [u16],
     pending: &mut [u32],
     out: &mut [u8],
-) -> Written
+) -> Result<usize, Refusal>
     ensures written { let x = working buckets.old entries.old inverse.old local.old
         parents.old children.old pending.old in
         Writes

@@ -18,16 +18,6 @@ fn halves(lo: usize, hi: usize) -> u32
     (lo + 65536 * hi) as u32
 }
 
-// The lesser of two numbers.
-fn lesser(a: usize, b: usize) -> usize
-    ensures answer { result ≡ min a b }
-{
-    if a <= b {
-        return a;
-    }
-    b
-}
-
 // The words of the record of n bones, c buckets and k child entries.
 fn skeleton_words(at: Starts, free: Words4, n: usize, c: usize, k: usize) -> [u32; 28]
     requires { SkeletonCounts (meant_starts at) n c k }
@@ -39,7 +29,7 @@ fn skeleton_words(at: Starts, free: Words4, n: usize, c: usize, k: usize) -> [u3
     let local = pointer(at.local, n);
     let parents = pointer(at.parents, n);
     let children = pointer(at.children, k);
-    let hashed = halves(c, lesser(n, c));
+    let hashed = halves(c, n.min(c));
     let counts = halves(1, n);
     [
         format::SKELETON_KIND,
@@ -78,6 +68,5 @@ pub(crate) fn put_skeleton(d: &mut [u8], at: Starts, free: Words4, n: usize, c: 
     requires { SkeletonCounts (meant_starts at) n c k × (112 ≤ length d.old) }
     ensures bytes { d.new ≡ sets d.old 0 (lay (skeleton_items (meant_starts at) (meant_words4 free) n c k)) }
 {
-    let w = skeleton_words(at, free, n, c, k);
-    put_words(d, 0, &w);
+    put_words(d, 0, &skeleton_words(at, free, n, c, k));
 }

@@ -25,38 +25,27 @@ pub(crate) fn put_halves(d: &mut [u8], at: usize, h: &[u16])
     let _ = runs::put(d, at, h);
 }
 
-// k bytes, those of s from `from` on.
-fn put_run(d: &mut [u8], at: usize, s: &[u8], from: usize, k: usize)
-    requires { (from + k ≤ length s.now) × (at + k ≤ length d.old) }
-    ensures bytes { d.new ≡ sets d.old at (take k (drop from s.now)) }
+// The first k bytes of s at least: the buffer may change up to its end. Where there are 32 on both sides, 32 are stored, whatever k is:
+// a copy of a length that is known is two loads and two stores.
+pub(crate) fn put_at_least(d: &mut [u8], at: usize, s: &[u8], k: usize)
+    requires { (k ≤ length s.now) × (at + k ≤ length d.old) }
+    ensures bytes { StoredTo (length d.old) d.old at (take k s.now) d.new }
 {
-    let mut i = 0;
-    while i < k {
-        d[at + i] = s[from + i];
-        i += 1;
-    }
-}
-
-// The same by a copy, which cannot overlap the buffer, so that the 32 bytes are loaded and stored by two of 16.
-fn put_chunk(d: &mut [u8], at: usize, s: &[u8], from: usize)
-    requires { (from + 32 ≤ length s.now) × (at + 32 ≤ length d.old) }
-    ensures bytes { d.new ≡ sets d.old at (take 32 (drop from s.now)) }
-{
-    let mut b = [0u8; 32];
-    put_run(&mut b, 0, s, from, CHUNK);
-    put_run(d, at, &b, 0, CHUNK);
-}
-
-// At least the k bytes: the buffer may change up to `limit`. Where there are 32 on both sides, 32 are stored, whatever k is.
-pub(crate) fn put_at_least(d: &mut [u8], at: usize, limit: usize, s: &[u8], from: usize, k: usize)
-    requires { (from + k ≤ length s.now) × (at + k ≤ limit) × (limit ≤ length d.old) }
-    ensures bytes { StoredTo limit d.old at (take k (drop from s.now)) d.new }
-{
-    if k <= CHUNK && s.len() - from >= CHUNK && limit - at >= CHUNK {
-        put_chunk(d, at, s, from);
+    if k <= CHUNK && s.len() >= CHUNK && d.len() - at >= CHUNK {
+        put_bytes(d, at, &s[..CHUNK]);
         return;
     }
-    put_run(d, at, s, from, k);
+    put_bytes(d, at, &s[..k]);
+}
+
+// The bytes of s.
+#[inline(always)]
+fn put_bytes(d: &mut [u8], at: usize, s: &[u8])
+    requires { at + length s.now ≤ length d.old }
+    ensures bytes { d.new ≡ sets d.old at s.now }
+{
+    let end = at + s.len();
+    d[at..end].copy_from_slice(s);
 }
 
 // n zero bytes.
@@ -64,9 +53,6 @@ pub(crate) fn put_zeros(d: &mut [u8], at: usize, n: usize)
     requires { at + n ≤ length d.old }
     ensures bytes { d.new ≡ sets d.old at (replicate n 0) }
 {
-    let mut i = 0;
-    while i < n {
-        d[at + i] = 0;
-        i += 1;
-    }
+    let end = at + n;
+    d[at..end].fill(0);
 }

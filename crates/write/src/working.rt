@@ -10,15 +10,7 @@ use derive_matrices::matrices::{Transformed, build_transformations};
 use format::Refusal;
 use tables::{clear16, clear32};
 
-#[derive(Clone, Copy)]
-pub enum Derived {
-    // the number of child entries
-    Children(usize),
-    // 1: a table is too short
-    Refused(Refusal),
-}
-
-// Derives all tables of the first n bones. The chains come last: they are stored first, while their entries are in the cache.
+// Derives all tables of the first n bones, and gives the number of child entries: refusal 1. The chains come last: they are stored first, while their entries are in the cache.
 pub(crate) fn derive_tables(
     bones: &[u32],
     n: usize,
@@ -29,7 +21,7 @@ pub(crate) fn derive_tables(
     parents: &mut [u16],
     children: &mut [u16],
     pending: &mut [u32],
-) -> Derived
+) -> Result<usize, Refusal>
     requires { RowsHere bones.now n }
     ensures tables { Derives n bones.now result
         (working buckets.old entries.old inverse.old local.old
@@ -38,15 +30,15 @@ pub(crate) fn derive_tables(
         parents.new children.new pending.new) }
 {
     if let Transformed::Refused(r) = build_transformations(bones, n, inverse, local) {
-        return Derived::Refused(r);
+        return Err(r);
     }
     let count = match build_indices(bones, n, parents, children, pending) {
         Indexed::Done(k) => k,
-        Indexed::Refused(r) => return Derived::Refused(r),
+        Indexed::Refused(r) => return Err(r),
     };
     match build_bone_tags(bones, n, buckets, entries) {
-        Tagged::Refused(r) => Derived::Refused(r),
-        Tagged::Done(_) => Derived::Children(count),
+        Tagged::Refused(r) => Err(r),
+        Tagged::Done(_) => Ok(count),
     }
 }
 

@@ -1,11 +1,6 @@
--- `write::names::no_zero_run` meets its contract. The loop's invariant: the first i bytes are passed. Assumes nothing.
-use Prim.Native.Nat.{◌-◌}
-use lib.ListN.{take, drop}
+-- `write::names::no_zero_run` meets its contract. The loop's invariant: `good` tells of the bytes passed. Assumes nothing.
 use Rattle.write.proofs.Naming.{Passed}
 use Rattle.write.proofs.names.no_zero_run.Given as goal
 
-abbrev pub invariant-loop-i : goal.invariant-loop-i
-invariant-loop-i l = Passed (take l.k (drop l.at l.s)) l.i l.good
-
-abbrev pub decreases-loop-i : goal.decreases-loop-i
-decreases-loop-i l = l.k - l.i
+abbrev pub invariant-loop-byte : goal.invariant-loop-byte
+invariant-loop-byte l = Passed l.s l.byte-index l.good

@@ -1,12 +1,11 @@
--- `write::words::put_zeros` meets its contract. The loop's invariant: i zeros are stored. Assumes nothing.
-use Rattle.write.proofs.Runs.{zeros_none, zeros_more, zeros_all}
+-- `write::words::put_zeros` meets its contract. Assumes nothing.
+use Prim.Native.Nat.{ℕ}
+use mathlib.Core.Path.{sym}
+use lib.ListN.{replicate, length-replicate}
+use Rattle.write.proofs.Runs.{part-stored}
 use Rattle.write.proofs.words.put_zeros.Goals as goal
 
-pub loop-i-init : goal.loop-i-init
-loop-i-init c = zeros_none _ _ _
-
-pub loop-i-preserved : goal.loop-i-preserved
-loop-i-preserved c = zeros_more c.loop-i.invariant c.loop-i-test.true
-
 pub returns : goal.returns
-returns c = record { bytes = zeros_all c.loop-i.invariant c.loop-i-test.false }
+returns c = record {
+  bytes = part-stored _ _ _ (replicate c.args.n 0) (search rules) (sym (length-replicate c.args.n 0)) c.requires;
+}
