@@ -63,9 +63,9 @@ length-bone b at = length-lay (bone_items b at)
 -- ---- the records of the rows
 
 -- one row more of those left
-pub rows-next : (rows : List (List ℕ)) (p : ℕ) → p < length rows → {row : List ℕ} → row ≡ get_or rows p row
+pub rows-next : (rows : List (List ℕ)) (p : ℕ) → p < length rows → {row : List ℕ} → row ≡ get_or rows p []
     → map bone_of (drop p rows) ≡ bone_of row ∷ map bone_of (drop (p + 1) rows)
-rows-next rows p l {row} e = rw (drop-cons rows p row l, ← e, add-one)
+rows-next rows p l {row} e = rw (drop-cons rows p [] l, ← e, add-one)
 
 -- the rows from p on are left, their names to lie from `name` on
 pub record Boning (rows : List (List ℕ)) (d₀ : List ℕ) (at names : ℕ) (d : List ℕ) (to name p : ℕ) : Type 0 where
@@ -78,9 +78,9 @@ pub boning_none : (rows : List (List ℕ)) (d : List ℕ) (at names : ℕ) → B
 boning_none rows d at names = record { stands = omega arith; left = left-none d at _; counts = refl }
 
 module _ {rows : List (List ℕ)} {d₀ : List ℕ} {at names : ℕ} {d : List ℕ} {to name p : ℕ} (r : BonesRoom rows at names (length d₀))
-    (h : Boning rows d₀ at names d to name p) (l : p < length rows) {row : List ℕ} (er : row ≡ get_or rows p row) where
+    (h : Boning rows d₀ at names d to name p) (l : p < length rows) {row : List ℕ} (er : row ≡ get_or rows p []) where
   pub boning_short : ShortName row
-  boning_short = rw er (r.names_short.short p row l)
+  boning_short = rw er (r.names_short.short p l)
 
   pub boning_small : {m : ℕ} → m ≡ takes (bone_of row).name → name + m ≤ window
   unfolding takes_all
@@ -181,7 +181,8 @@ pub rows_cut : (n m : ℕ) (t : List ℕ) → 21 * n ≤ m → map bone_of (firs
 unfolding bones_of
 rows_cut zero m t h = refl
 rows_cut (suc n) m t h =
-    let e : m ≡ 21 + (m - 21) = omega arith in
+    let k = m - 21 in
+    let e : m ≡ 21 + k = omega arith in
     let f : take 21 (take m t) ≡ take 21 t = take-take 21 m t (omega arith) in
-    let g : drop 21 (take m t) ≡ take (m - 21) (drop 21 t) = rw e (drop-take 21 (m - 21) t) in
-    rw (f, bone_words-first t, g, rows_cut n (m - 21) (drop 21 t) (omega arith))
+    let g : drop 21 (take m t) ≡ take k (drop 21 t) = ap (λ (j : ℕ). drop 21 (take j t)) e ∙ drop-take 21 k t in
+    rw (f, bone_words-first t, g, rows_cut n k (drop 21 t) (omega arith))

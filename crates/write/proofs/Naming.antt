@@ -3,7 +3,8 @@
 use mathlib.Core.Path.{◌≡◌, refl, sym, ap, ◌∙◌}
 use mathlib.Core.Bool.{Bool, true, false, not, ◌&&◌, ◌||◌}
 use mathlib.Core.Logic.{⊎_elim}
-use Rattle.std.specs.Prelude.{Option, None, Some}
+use Rattle.std.specs.Prelude.{Option, None, Some, Result, Ok, Err}
+use Rattle.std.specs.Borrow.{Bor}
 use mathlib.Core.List.{List, [], ◌∷◌, ◌++◌, map, flat_map}
 use Prim.Native.Nat.{ℕ, ◌+◌, ◌-◌, ◌*◌, ◌≤◌, ◌<◌}
 use native.Mathlib.Nat.{sub-zero, zero-add}
@@ -14,17 +15,15 @@ use lib.Dec.{leb, eqb}
 use lib.ListN.{length, get_or, take, drop, replicate, length-append, length-drop, drop_of_length-le, get_or-replicate, get_or-append}
 use lib.Seq.{sets, drop-cons, length-take-le, get_or-append-add, get_or-take}
 use Rattle.format.specs.Result.{Res, refused, done, ◌>>=◌, need}
+use Rattle.format.specs.Refusal.{number, outcome_by}
 use Rattle.format.specs.declared.Refusal.{Refusal}
-use Rattle.format.specs.Section.{Section, Spot, Place, spot, part, or_none, name_bytes}
+use Rattle.format.specs.Section.{Section, Spot, Place, spot, cursor, part, or_none, name_bytes}
 use Rattle.format.specs.Bone.{map_name}
 use Rattle.format.specs.Rows.{bone_of}
 use Rattle.format.specs.Layout.{ended_name, all_names}
 use Rattle.format.specs.Write.{no_zero, good_part, good_name, good_names, named}
 use Rattle.tables.proofs.Outcome.{both_true}
-use Rattle.blocks.specs.Places.{Locates}
-use Rattle.blocks.specs.declared.places.Located.{Located}
-use Rattle.blocks.specs.declared.places.Located.TheVariants.{Refused}
-use Rattle.blocks.proofs.Standing.{refused-part}
+use Rattle.blocks.specs.Places.{rest}
 use Rattle.blocks.proofs.Cases.{le-or-lt}
 use Rattle.rows.specs.Value.{our_place}
 use Rattle.format.specs.declared.Place as our
@@ -33,6 +32,12 @@ use Rattle.write.specs.Names.{name_in, names_result, StoredTo}
 use Rattle.fields.proofs.RunLaws.{length_part as length_cut, part-word, Left, left-none, left-all}
 use Rattle.write.proofs.Runs.{just_stored, left-past, sets_whole}
 use Rattle.write.proofs.Bones.{name-none, name-some, rows-next}
+
+-- two tests that hold alike
+leb-cong : (a b m n : ℕ) → (m ≤ n → a ≤ b) → (a ≤ b → m ≤ n) → leb a b ≡ leb m n
+leb-cong a b m n f g =
+    ⊎_elim (λ h. le-leb a b (f h) ∙ sym (le-leb m n h))
+    (λ h. lt-leb a b (⊎_elim (λ k. absurd (omega (arith, g k))) (λ k. k) (le-or-lt a b)) ∙ sym (lt-leb m n h)) (le-or-lt m n)
 
 -- ---- bytes without a zero
 
@@ -148,6 +153,49 @@ pub length_part : (lent : Section) (a n : ℕ) (l : List ℕ) → part lent a n 
 unfolding part
 length_part lent a n l e = part_by (spot lent a) n l e
 
+-- the bytes at a spot are the first of those from it on
+abbrev SameFrom : Spot → ℕ → Type 0
+SameFrom p n =
+    (need 11 (leb (p.offset + n) (length p.half)) >>= λ u. done (take n (drop p.offset p.half)))
+    ≡ ((need 11 (leb p.offset (length p.half)) >>= λ u. done p) >>= (λ p. done (drop p.offset p.half))
+    >>= λ s. need 11 (leb n (length s)) >>= λ u. done (take n s))
+
+same_from : (p : Spot) (n : ℕ) → SameFrom p n
+same_from p n = ⊎_elim here past (le-or-lt p.offset (length p.half))
+  where
+    here : p.offset ≤ length p.half → SameFrom p n
+    here h =
+        let f : leb (p.offset + n) (length p.half) ≡ leb n (length (drop p.offset p.half)) =
+        leb-cong _ _ _ _ (λ k. omega (arith, length-drop p.offset p.half)) (λ k. omega (arith, length-drop p.offset p.half)) in
+        rw (le-leb p.offset (length p.half) h, f)
+
+    past : length p.half < p.offset → SameFrom p n
+    past h =
+        let m : length p.half < p.offset + n = omega arith in
+        rw (lt-leb p.offset (length p.half) h, lt-leb (p.offset + n) (length p.half) m)
+
+rest_by :
+    (r : Res Spot) (n : ℕ)
+    → (r >>= λ p. need 11 (leb (p.offset + n) (length p.half)) >>= λ u. done (take n (drop p.offset p.half)))
+    ≡ ((r >>= λ p. need 11 (leb p.offset (length p.half)) >>= λ u. done p) >>= (λ p. done (drop p.offset p.half))
+    >>= λ s. need 11 (leb n (length s)) >>= λ u. done (take n s))
+rest_by (refused c) n = refl
+rest_by (done p) n = same_from p n
+
+module _ (lent : Section) (a n : ℕ) where
+  part-rest : part lent a n ≡ (rest lent a >>= λ s. need 11 (leb n (length s)) >>= λ u. done (take n s))
+  unfolding part rest cursor
+  part-rest = rest_by (spot lent a) n
+
+  pub rest-refused : {c : ℕ} → refused c ≡ rest lent a → refused c ≡ part lent a n
+  rest-refused e = rw (part-rest, ← e)
+
+  pub rest-short : {s : List ℕ} → done s ≡ rest lent a → length s < n → refused 11 ≡ part lent a n
+  rest-short {s} e h = rw (part-rest, ← e, lt-leb n (length s) h)
+
+  pub rest-done : {s : List ℕ} → done s ≡ rest lent a → n ≤ length s → done (take n s) ≡ part lent a n
+  rest-done {s} e h = rw (part-rest, ← e, le-leb n (length s) h)
+
 module _ (lent : Section) where
   -- a name over 255 bytes is not good
   pub long_bad : (a n : ℕ) → 255 < n → good_part (part lent a n) ≡ false
@@ -206,7 +254,7 @@ pub measuring_none : (lent : Section) (rows : List (List ℕ)) → Measuring len
 measuring_none lent rows = record { good = refl; counts = zero-add _; small = omega arith }
 
 module _ {lent : Section} {rows : List (List ℕ)} {p total : ℕ} (h : Measuring lent rows p total) where
-  module _ (l : p < length rows) {row : List ℕ} (er : row ≡ get_or rows p row) where
+  module _ (l : p < length rows) {row : List ℕ} (er : row ≡ get_or rows p []) where
     pub measuring_bad : {g : Bool} → g ≡ good_name lent (bone_of row).name → g ≡ false
         → refused 4 ≡ names_result lent (map bone_of rows)
     unfolding good_names names_result
@@ -281,7 +329,7 @@ naming-none lent rows d = record { left = left-none d 0 _ }
 
 module _ {lent : Section} {rows : List (List ℕ)} {d₀ d : List ℕ} {p to : ℕ}
     (r : length d₀ ≡ length (all_names (named lent (map bone_of rows)))) (h : Naming lent rows d₀ d p to) where
-  module _ (l : p < length rows) {row : List ℕ} (er : row ≡ get_or rows p row) where
+  module _ (l : p < length rows) {row : List ℕ} (er : row ≡ get_or rows p []) where
     left-names :
         Left d₀ 0 (all_names (named lent (map bone_of rows))) d to
         (name_in lent row ++ all_names (named lent (map bone_of (drop (p + 1) rows))))

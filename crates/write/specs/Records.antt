@@ -41,7 +41,7 @@ ShortName row = takes (bone_of row).name ≤ 256
 -- rows with such names, at most 65,535 of them
 pub record ShortNames (rows : List (List ℕ)) : Type 0 where
   pub few : length rows ≤ 65535
-  pub short : (p : ℕ) (d : List ℕ) → p < length rows → ShortName (get_or rows p d)
+  pub short : (p : ℕ) → p < length rows → ShortName (get_or rows p [])
 
 -- room for the records of some rows from `at` on in `size` bytes, and addresses for their names
 pub record BonesRoom (rows : List (List ℕ)) (at names size : ℕ) : Type 0 where

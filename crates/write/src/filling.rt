@@ -5,7 +5,7 @@ ghost use Rattle.format.specs.Field.{word_bytes};
 ghost use Rattle.format.specs.Rows.{bone_of};
 ghost use Rattle.format.specs.Layout.{base, after, pad16, all_names, layout};
 ghost use Rattle.format.specs.Write.{named};
-ghost use Rattle.blocks.specs.Places.{section};
+ghost use Rattle.blocks.specs.Places.{section_of};
 ghost use Rattle.write.specs.Placing.{meant_starts};
 ghost use Rattle.format.specs.Words.{meant_words4};
 ghost use Rattle.write.specs.Records.{block};
@@ -17,6 +17,7 @@ use crate::names::put_names;
 use crate::skeleton::put_skeleton;
 use crate::starts::{Starts, fill};
 use crate::words::{put_halves, put_words, put_zeros};
+use blocks::places::Section;
 use format::{BONE_WORDS, Words4};
 
 // How many there are of what, beside the bones.
@@ -40,24 +41,24 @@ fn put_list(d: &mut [u8], at: usize, h: &[u16])
 }
 
 // Stores the names, `size` bytes, and their fill.
-fn put_names_part(d: &mut [u8], at: usize, size: usize, bones: &[[u32; BONE_WORDS]], sys: &[u8], gfx: &[u8])
-    requires { NamesPart (section sys.now gfx.now) (map bone_of bones.now) at size (length d.old) }
-    ensures bytes { let lent = section sys.now gfx.now in
+fn put_names_part(d: &mut [u8], at: usize, size: usize, bones: &[[u32; BONE_WORDS]], names: Section)
+    requires { NamesPart (section_of names) (map bone_of bones.now) at size (length d.old) }
+    ensures bytes { let lent = section_of names.entry in
         d.new ≡ sets d.old at (pad16 (all_names (named lent (map bone_of bones.now)))) }
 {
     let end = at + size;
-    put_names(&mut d[at..end], bones, sys, gfx);
+    put_names(&mut d[at..end], bones, names);
     put_zeros(d, end, fill(size));
 }
 
 // Stores the bones block and the names.
-fn fill_bones(d: &mut [u8], at: Starts, size: usize, bones: &[[u32; BONE_WORDS]], sys: &[u8], gfx: &[u8])
-    requires { BonesPart (meant_starts at) (section sys.now gfx.now) bones.now size (length d.old) }
-    ensures bytes { let lent = section sys.now gfx.now in
+fn fill_bones(d: &mut [u8], at: Starts, size: usize, bones: &[[u32; BONE_WORDS]], names: Section)
+    requires { BonesPart (meant_starts at) (section_of names) bones.now size (length d.old) }
+    ensures bytes { let lent = section_of names.entry in
         d.new ≡ bones_stored (meant_starts at) lent (map bone_of bones.now) d.old }
 {
     put_block(d, at.bones, at.names, bones);
-    put_names_part(d, at.names, size, bones, sys, gfx);
+    put_names_part(d, at.names, size, bones, names);
 }
 
 // Stores matrices, parents and child entries.
@@ -78,8 +79,7 @@ pub(crate) fn fill_section(
     free: Words4,
     s: Sizes,
     bones: &[[u32; BONE_WORDS]],
-    sys: &[u8],
-    gfx: &[u8],
+    names: Section,
     buckets: &[u32],
     entries: &[u32],
     inverse: &[u32],
@@ -87,16 +87,16 @@ pub(crate) fn fill_section(
     parents: &[u16],
     children: &[u16],
 )
-    requires { PartsPlaced (meant_starts at) s (section sys.now gfx.now) bones.now buckets.now entries.now inverse.now local.now
+    requires { PartsPlaced (meant_starts at) s (section_of names) bones.now buckets.now entries.now inverse.now local.now
         parents.now children.now (length d.old) }
-    ensures bytes { let lent = section sys.now gfx.now in
+    ensures bytes { let lent = section_of names.entry in
         d.new ≡ sets d.old 0 (layout (named lent (map bone_of bones.now)) (meant_words4 free)) }
 {
     let n = bones.len();
     let words = format::MATRIX_WORDS * n;
     put_skeleton(d, at, free, n, s.buckets, s.children);
     put_chains(d, at.buckets, at.entries, &buckets[..s.buckets], entries);
-    fill_bones(d, at, s.names, bones, sys, gfx);
+    fill_bones(d, at, s.names, bones, names);
     fill_lists(
         d,
         at,

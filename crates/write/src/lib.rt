@@ -12,23 +12,23 @@ mod working; // the working tables
 mod outcome; // the tests in their order
 
 ghost use Rattle.std.specs.Prelude.{◌≡◌, ◌≤◌, length};
-ghost use Rattle.blocks.specs.Places.{section};
+ghost use Rattle.blocks.specs.Places.{section_of};
 ghost use Rattle.format.specs.Words.{meant_words4};
 ghost use Rattle.write.specs.Outcome.{outcome, Writes};
 ghost use Rattle.tables.specs.Working.{working, room_in, Zeroed};
 
 use crate::outcome::attempt;
 use crate::working::clear_tables;
+use blocks::places::Section;
 use format::{Refusal, Words4};
 
-// Writes the section of the first n bones of a table, whose names lie in the lent halves, at the front of `out`, and gives its
+// Writes the section of the first n bones of a table, whose names lie in the halves of a lent section, at the front of `out`, and gives its
 // length. Refuses 2, then 1 for the table of bones, 4, 1 for the working tables, 3, 5. On a refusal `out` is as it was; else only the
 // section's own bytes change. The working tables are zero after every call.
 pub fn write(
     bones: &[u32],
     n: usize,
-    sys: &[u8],
-    gfx: &[u8],
+    names: Section,
     free: Words4,
     buckets: &mut [u32],
     entries: &mut [u32],
@@ -42,7 +42,7 @@ pub fn write(
     ensures written { let x = working buckets.old entries.old inverse.old local.old
         parents.old children.old pending.old in
         Writes
-        (outcome (section sys.now gfx.now) (room_in x) (length out.old) n bones.now
+        (outcome (section_of names.entry) (room_in x) (length out.old) n bones.now
         (meant_words4 free))
         result out.old out.new }
     ensures tables { Zeroed
@@ -52,7 +52,7 @@ pub fn write(
         parents.new children.new pending.new) }
 {
     let r = attempt(
-        bones, n, sys, gfx, free, buckets, entries, inverse, local, parents, children, pending, out,
+        bones, n, names, free, buckets, entries, inverse, local, parents, children, pending, out,
     );
     clear_tables(buckets, entries, inverse, local, parents, children, pending);
     r

@@ -6,12 +6,12 @@ ghost use Rattle.format.specs.Rows.{bone_of};
 ghost use Rattle.format.specs.Section.{part};
 ghost use Rattle.format.specs.Layout.{all_names};
 ghost use Rattle.format.specs.Write.{no_zero, good_name, named};
-ghost use Rattle.blocks.specs.Places.{section};
+ghost use Rattle.blocks.specs.Places.{section_of};
 ghost use Rattle.write.specs.Names.{name_in, names_result, StoredTo};
 
 use crate::block::name_bytes;
 use crate::words::{CHUNK, put_at_least};
-use blocks::places::{Located, locate};
+use blocks::places::Section;
 use format::{BONE_WORDS, Place, Refusal};
 use rows::name_at;
 
@@ -55,20 +55,20 @@ fn no_zero(s: &[u8], k: usize) -> bool
 }
 
 // The bytes of a half from a name on. All of the name's must stand: refusals 10, then 11.
-fn from_name<'a>(sys: &'a [u8], gfx: &'a [u8], name: Place) -> Result<&'a [u8], Refusal>
-    ensures name { outcome_by (λ s. take name.size s.now) result ≡ part (section sys.now gfx.now) name.address name.size }
+fn from_name<'a>(names: Section<'a>, name: Place) -> Result<&'a [u8], Refusal>
+    ensures name { outcome_by (λ s. take name.size s.now) result ≡ part (section_of names.entry) name.address name.size }
     ensures stands { IfOk result (λ s. name.size ≤ length s.now) }
 {
-    match locate(sys, gfx, name.address, name.size as usize) {
-        Located::System(offset) => Ok(&sys[offset..]),
-        Located::Graphics(offset) => Ok(&gfx[offset..]),
-        Located::Refused(r) => Err(r),
+    let bytes = names.rest(name.address)?;
+    if bytes.len() < name.size as usize {
+        return Err(Refusal::PastTheEnd);
     }
+    Ok(bytes)
 }
 
 // Whether the writer takes the name of a row: no name is good.
-fn good_name(row: &[u32; BONE_WORDS], sys: &[u8], gfx: &[u8]) -> bool
-    ensures answer { result ≡ good_name (section sys.now gfx.now) (bone_of row.now).name }
+fn good_name(row: &[u32; BONE_WORDS], names: Section) -> bool
+    ensures answer { result ≡ good_name (section_of names.entry) (bone_of row.now).name }
 {
     let name = name_at(row, 0);
     if name.address == 0 {
@@ -78,7 +78,7 @@ fn good_name(row: &[u32; BONE_WORDS], sys: &[u8], gfx: &[u8]) -> bool
     if size > format::LONGEST_NAME {
         return false;
     }
-    let Ok(bytes) = from_name(sys, gfx, name) else {
+    let Ok(bytes) = from_name(names, name) else {
         return false;
     };
     no_zero(bytes, size)
@@ -86,13 +86,13 @@ fn good_name(row: &[u32; BONE_WORDS], sys: &[u8], gfx: &[u8]) -> bool
 
 // The bytes that the names of some rows take, with their zeros. Refusal: 4 where one is over 255 bytes, holds a zero or does not lie in
 // the lent bytes.
-pub(crate) fn measure_names(bones: &[[u32; BONE_WORDS]], sys: &[u8], gfx: &[u8]) -> Result<usize, Refusal>
+pub(crate) fn measure_names(bones: &[[u32; BONE_WORDS]], names: Section) -> Result<usize, Refusal>
     requires { length bones.now ≤ 65535 }
-    ensures answer { outcome result ≡ names_result (section sys.now gfx.now) (map bone_of bones.now) }
+    ensures answer { outcome result ≡ names_result (section_of names.entry) (map bone_of bones.now) }
 {
     let mut total = 0;
     for row in bones {
-        if !good_name(row, sys, gfx) {
+        if !good_name(row, names) {
             return Err(Refusal::BadName);
         }
         total += name_bytes(row);
@@ -113,28 +113,28 @@ fn put_ended(d: &mut [u8], at: usize, s: &[u8], k: usize) -> usize
 }
 
 // Stores the name of a row and its zero, or nothing for no name; gives where it ends. The buffer may change up to its end.
-fn put_name(d: &mut [u8], at: usize, row: &[u32; BONE_WORDS], sys: &[u8], gfx: &[u8]) -> usize
-    requires { at + length (name_in (section sys.now gfx.now) row.now) ≤ length d.old }
-    ensures end { result ≡ at + length (name_in (section sys.now gfx.now) row.now) }
-    ensures bytes { StoredTo (length d.old) d.old at (name_in (section sys.now gfx.now) row.now) d.new }
+fn put_name(d: &mut [u8], at: usize, row: &[u32; BONE_WORDS], names: Section) -> usize
+    requires { at + length (name_in (section_of names) row.now) ≤ length d.old }
+    ensures end { result ≡ at + length (name_in (section_of names.entry) row.now) }
+    ensures bytes { StoredTo (length d.old) d.old at (name_in (section_of names.entry) row.now) d.new }
 {
     let name = name_at(row, 0);
     if name.address == 0 {
         return at;
     }
-    match from_name(sys, gfx, name) {
+    match from_name(names, name) {
         Ok(bytes) => put_ended(d, at, bytes, name.size as usize),
         Err(_) => put_ended(d, at, &[], 0),
     }
 }
 
 // Fills a buffer with the names of some rows.
-pub(crate) fn put_names(d: &mut [u8], bones: &[[u32; BONE_WORDS]], sys: &[u8], gfx: &[u8])
-    requires { length d.old ≡ length (all_names (named (section sys.now gfx.now) (map bone_of bones.now))) }
-    ensures bytes { d.new ≡ all_names (named (section sys.now gfx.now) (map bone_of bones.now)) }
+pub(crate) fn put_names(d: &mut [u8], bones: &[[u32; BONE_WORDS]], names: Section)
+    requires { length d.old ≡ length (all_names (named (section_of names) (map bone_of bones.now))) }
+    ensures bytes { d.new ≡ all_names (named (section_of names.entry) (map bone_of bones.now)) }
 {
     let mut to = 0;
     for row in bones {
-        to = put_name(d, to, row, sys, gfx);
+        to = put_name(d, to, row, names);
     }
 }

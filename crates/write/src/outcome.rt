@@ -3,7 +3,7 @@
 ghost use Rattle.std.specs.Prelude.{◌≡◌, length, map};
 ghost use Rattle.format.specs.Refusal.{outcome as answered};
 ghost use Rattle.format.specs.Rows.{bone_of};
-ghost use Rattle.blocks.specs.Places.{section};
+ghost use Rattle.blocks.specs.Places.{section_of};
 ghost use Rattle.format.specs.Words.{meant_words4};
 ghost use Rattle.write.specs.Filling.{Held};
 ghost use Rattle.write.specs.Outcome.{outcome, tested, laid_out, Writes};
@@ -14,12 +14,13 @@ use crate::filling::{Sizes, fill_section};
 use crate::names::measure_names;
 use crate::starts::{after, place};
 use crate::working::derive_tables;
+use blocks::places::Section;
 use derive_chains::buckets::{bucket_count, entry_count};
 use format::{BONE_WORDS, Refusal, Words4};
 
 // Tests the first n bones of a table and their names: refusals 2, 1 for the table, 4. Gives the bytes that the names take.
-fn check_bones(bones: &[u32], n: usize, sys: &[u8], gfx: &[u8]) -> Result<usize, Refusal>
-    ensures answer { answered result ≡ tested (section sys.now gfx.now) n bones.now }
+fn check_bones(bones: &[u32], n: usize, names: Section) -> Result<usize, Refusal>
+    ensures answer { answered result ≡ tested (section_of names.entry) n bones.now }
 {
     if n > format::MOST {
         return Err(Refusal::TooManyBones);
@@ -27,14 +28,13 @@ fn check_bones(bones: &[u32], n: usize, sys: &[u8], gfx: &[u8]) -> Result<usize,
     if bones.len() < BONE_WORDS * n {
         return Err(Refusal::TableTooShort);
     }
-    measure_names(rows_of(bones, n), sys, gfx)
+    measure_names(rows_of(bones, n), names)
 }
 
 // Tests the child entries and the buffer, and fills it: refusals 3, 5.
 fn lay_out(
     bones: &[[u32; BONE_WORDS]],
-    sys: &[u8],
-    gfx: &[u8],
+    names: Section,
     free: Words4,
     s: Sizes,
     buckets: &[u32],
@@ -45,10 +45,10 @@ fn lay_out(
     children: &[u16],
     out: &mut [u8],
 ) -> Result<usize, Refusal>
-    requires { Held s (section sys.now gfx.now) (map bone_of bones.now) buckets.now entries.now inverse.now local.now parents.now
+    requires { Held s (section_of names) (map bone_of bones.now) buckets.now entries.now inverse.now local.now parents.now
         children.now }
     ensures written { Writes
-        (laid_out (section sys.now gfx.now) (length out.old) (map bone_of bones.now) (meant_words4 free))
+        (laid_out (section_of names.entry) (length out.old) (map bone_of bones.now) (meant_words4 free))
         result out.old out.new }
 {
     if s.children > format::MOST {
@@ -61,7 +61,7 @@ fn lay_out(
         return Err(Refusal::BufferTooShort);
     }
     fill_section(
-        out, at, free, s, bones, sys, gfx, buckets, entries, inverse, local, parents, children,
+        out, at, free, s, bones, names, buckets, entries, inverse, local, parents, children,
     );
     Ok(size)
 }
@@ -70,8 +70,7 @@ fn lay_out(
 pub(crate) fn attempt(
     bones: &[u32],
     n: usize,
-    sys: &[u8],
-    gfx: &[u8],
+    names: Section,
     free: Words4,
     buckets: &mut [u32],
     entries: &mut [u32],
@@ -85,21 +84,21 @@ pub(crate) fn attempt(
     ensures written { let x = working buckets.old entries.old inverse.old local.old
         parents.old children.old pending.old in
         Writes
-        (outcome (section sys.now gfx.now) (room_in x) (length out.old) n bones.now
+        (outcome (section_of names.entry) (room_in x) (length out.old) n bones.now
         (meant_words4 free))
         result out.old out.new }
 {
-    let names = check_bones(bones, n, sys, gfx)?;
+    let name_bytes = check_bones(bones, n, names)?;
     let children_count = derive_tables(
         bones, n, buckets, entries, inverse, local, parents, children, pending,
     )?;
     let sizes = Sizes {
         buckets: bucket_count(n),
         children: children_count,
-        names,
+        names: name_bytes,
     };
     let rows = rows_of(bones, n);
     lay_out(
-        rows, sys, gfx, free, sizes, buckets, entries, inverse, local, parents, children, out,
+        rows, names, free, sizes, buckets, entries, inverse, local, parents, children, out,
     )
 }

@@ -1,35 +1,33 @@
--- `write::block::put_bones` meets its contract. The loop's invariant: the rows from p on are left. Assumes nothing.
+-- `write::block::put_bones` meets its contract. Assumes nothing.
+use mathlib.Core.Path.{refl}
 use native.Mathlib.Omega.{arith}
 use Rattle.write.proofs.Bones.{boning_none, boning_short, boning_small, boning_room, boning_more, boning_all}
 use Rattle.write.proofs.block.put_bones.Goals as goal
 
-pub loop-p-init : goal.loop-p-init
-loop-p-init c = boning_none _ _ _ _ _
+pub loop-row-init : goal.loop-row-init
+loop-row-init c = boning_none _ _ _ _
 
 pub name_bytes-size-requires : goal.name_bytes-size-requires
-name_bytes-size-requires c = boning_short c.requires c.loop-p.invariant c.loop-p-test.true c.row_in-row.ensures.part
+name_bytes-size-requires c = boning_short c.requires c.loop-row.invariant c.loop-row-test.true refl
 
 pub pointer-requires : goal.pointer-requires
 pointer-requires c = omega (
   arith,
-  boning_small c.requires c.loop-p.invariant c.loop-p-test.true c.row_in-row.ensures.part c.name_bytes-size.ensures.answer,
+  boning_small c.requires c.loop-row.invariant c.loop-row-test.true refl c.name_bytes-size.ensures.answer,
 )
 
 pub put_bone-requires : goal.put_bone-requires
-put_bone-requires c = boning_room c.requires c.loop-p.invariant c.loop-p-test.true c.row_in-row.ensures.part
+put_bone-requires c = boning_room c.requires c.loop-row.invariant c.loop-row-test.true refl
 
 pub overflow_add-name : goal.overflow_add-name
 overflow_add-name c = record {
-  fits = omega (
-    arith,
-    boning_small c.requires c.loop-p.invariant c.loop-p-test.true c.row_in-row.ensures.part c.name_bytes-size.ensures.answer,
-  );
+  fits = omega (arith, boning_small c.requires c.loop-row.invariant c.loop-row-test.true refl c.name_bytes-size.ensures.answer);
 }
 
-pub loop-p-preserved : goal.loop-p-preserved
-loop-p-preserved c = boning_more c.requires
-    c.loop-p.invariant c.loop-p-test.true c.row_in-row.ensures.part c.name_bytes-size.ensures.answer c.pointer.ensures.answer
-    c.put_bone.ensures.bytes
+pub loop-row-preserved : goal.loop-row-preserved
+loop-row-preserved c =
+    boning_more c.requires c.loop-row.invariant c.loop-row-test.true refl c.name_bytes-size.ensures.answer
+    c.pointer.ensures.answer c.put_bone.ensures.bytes
 
 pub returns : goal.returns
-returns c = record { bytes = boning_all c.loop-p.invariant c.loop-p-test.false }
+returns c = record { bytes = boning_all c.loop-row.invariant c.loop-row-test.false }

@@ -1,22 +1,15 @@
 -- `write::names::from_name` meets its contract. Assumes nothing.
-use Prim.Native.Nat.{◌+◌, ◌≤◌}
-use native.Mathlib.Omega.{arith}
-use lib.ListN.{length, length-drop}
-use Rattle.std.proofs.lemmas.List.{take_rest}
-use Rattle.blocks.proofs.Standing.{system-stands, graphics-stands}
+use Rattle.std.proofs.lemmas.Result.{err_from_is_err_and}
+use Rattle.write.proofs.Naming.{rest-refused, rest-short, rest-done}
 use Rattle.write.proofs.names.from_name.Goals as goal
 
-pub slice_bounds-result-count : goal.slice_bounds-result-count
-slice_bounds-result-count c = omega (arith, system-stands c.locate.ensures.answer c.in-System.is)
+pub returns-in_err-bytes-clause-name : goal.returns-in_err-bytes-clause-name
+returns-in_err-bytes-clause-name c =
+    let p = err_from_is_err_and c.from_residual.result c.from_residual.ensures.1 in
+    rw (p.1, p.2) (rest-refused _ _ _ c.in_err-bytes.ensures.answer)
 
-pub slice_bounds-result-start : goal.slice_bounds-result-start
-slice_bounds-result-start c = ?
+pub returns-then-bytes-name-clause-name : goal.returns-then-bytes-name-clause-name
+returns-then-bytes-name-clause-name c = rest-short _ _ _ c.in_ok-bytes.ensures.answer c.if-bytes-name.true
 
-pub slice_bounds-result-count-in-Graphics : goal.slice_bounds-result-count-in-Graphics
-slice_bounds-result-count-in-Graphics c = omega (arith, graphics-stands c.locate.ensures.answer c.in-Graphics.is)
-
-pub slice_bounds-result-start-in-Graphics : goal.slice_bounds-result-start-in-Graphics
-slice_bounds-result-start-in-Graphics c = ?
-
-pub returns-in-System : goal.returns-in-System
-returns-in-System c = record { name = ?; stands = ? }
+pub returns : goal.returns
+returns c = record { name = rest-done _ _ _ c.in_ok-bytes.ensures.answer c.if-bytes-name.false; stands = c.if-bytes-name.false }

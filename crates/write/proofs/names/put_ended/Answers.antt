@@ -1,13 +1,11 @@
 -- `write::names::put_ended` meets its contract. Assumes nothing.
 use mathlib.Core.Path.{refl}
+use native.Mathlib.Omega.{arith}
 use Rattle.write.proofs.Runs.{ended_stored}
 use Rattle.write.proofs.names.put_ended.Goals as goal
 
 pub returns : goal.returns
-returns c =
-    record {
-      end = refl;
-      bytes =
-          ended_stored c.args.limit c.args.d.now c.args.at c.args.s.now c.args.from c.args.k c.requires.0 c.requires.1
-          c.put_at_least.ensures.bytes;
-    }
+returns c = record {
+  end = refl;
+  bytes = ended_stored _ _ _ _ _ c.requires.0 c.requires.1 c.put_at_least.ensures.bytes;
+}

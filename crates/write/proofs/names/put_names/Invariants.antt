@@ -1,11 +1,7 @@
--- `write::names::put_names` meets its contract. The loop's invariant: the names of the rows from p on are left. Assumes nothing.
-use Prim.Native.Nat.{◌-◌}
-use Rattle.blocks.specs.Places.{section}
+-- `write::names::put_names` meets its contract. The loop's invariant: the names of the rows ahead are left. Assumes nothing.
+use Rattle.blocks.specs.Places.{section_of}
 use Rattle.write.proofs.Naming.{Naming}
 use Rattle.write.proofs.names.put_names.Given as goal
 
-abbrev pub invariant-loop-p : goal.invariant-loop-p
-invariant-loop-p l = Naming (section l.sys l.gfx) l.bones l.n l.initial.d l.at l.d l.p l.to
-
-abbrev pub decreases-loop-p : goal.decreases-loop-p
-decreases-loop-p l = l.n - l.p
+abbrev pub invariant-loop-row : goal.invariant-loop-row
+invariant-loop-row l = Naming (section_of l.names) l.bones l.initial.d l.d l.row-index l.to
