@@ -151,7 +151,7 @@ module _ (ts rows : List ℕ) (m : ℕ) (e : rows ≡ laid (flat_map entry_words
         rw (chain-below b (length ts) h) (ap (λ (cs : List (List Entry)). chain ts (count ts) b ∷ cs) (map-linked bs h))
 
     -- the chains of the (count ts) are the derived chains
-    pub chains-linked : chains_of heads rows (count ts) ≡ chains ts
+    pub chains-linked : chains_of (take (count ts) heads) rows ≡ chains ts
     unfolding bucket_rows chains up_from
     chains-linked =
         let t : take (count ts) heads ≡ bucket_rows ts =

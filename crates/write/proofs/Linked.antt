@@ -6,8 +6,8 @@ use Prim.Native.Nat.{ℕ, zero, suc, ◌+◌, ◌-◌, ◌*◌, ◌≤◌, ◌<�
 use native.Mathlib.Nat.{add_assoc, add-zero, mul-zero}
 use native.Mathlib.Numerals.{add-one}
 use native.Mathlib.Omega.{arith}
-use lib.ListN.{length, get_or, take, drop, replicate, length-replicate, length-append, length-map, length-drop, drop_of_length-le}
-use lib.Seq.{sets, length-sets, length-take-le, drop-cons, get_or-take}
+use lib.ListN.{length, get_or, drop, replicate, length-replicate, length-append, length-map, length-drop, drop_of_length-le}
+use lib.Seq.{sets, length-sets, drop-cons}
 use Rattle.format.specs.Field.{bytes, word_bytes, lay}
 use Rattle.format.specs.Chains.{Entry, entry_of}
 use Rattle.format.specs.Layout.{base, fill, pad16, pointer, pointers, chain_bytes, entry_total, entry_bytes}
@@ -139,44 +139,39 @@ two_runs p ps c cs d i j h =
     ∙ ap (λ (l : List ℕ). sets l (j + length c) cs) (sets_swap ps c (sets d i p) (i + length p) j h)
 
 -- the chains from bucket b on
-abbrev rest : List ℕ → List ℕ → ℕ → ℕ → List (List Entry)
-rest heads rows count b = map (linked rows) (drop b (take count heads))
+abbrev rest : List ℕ → List ℕ → ℕ → List (List Entry)
+rest heads rows b = map (linked rows) (drop b heads)
 
 -- The buckets from b on are left: their pointers to be stored from at + 8 b on, their entries from `end` on.
-pub record Buckets (heads rows : List ℕ) (count at to : ℕ) (d₀ d : List ℕ) (b end : ℕ) : Type 0 where
-  pub high : b ≤ count
+pub record Buckets (heads rows : List ℕ) (at to : ℕ) (d₀ d : List ℕ) (b end : ℕ) : Type 0 where
+  pub high : b ≤ length heads
   pub low : to ≤ end
   pub same : length d ≡ length d₀
-  pub counts : end + 16 * entry_total (rest heads rows count b) ≡ to + 16 * entry_total (chains_of heads rows count)
+  pub counts : end + 16 * entry_total (rest heads rows b) ≡ to + 16 * entry_total (chains_of heads rows)
   pub is :
-      sets (sets d (at + 8 * b) (word_bytes 8 (pointers (base + end) (rest heads rows count b)))) end
-      (entry_bytes (base + end) (rest heads rows count b))
-      ≡ sets (sets d₀ at (word_bytes 8 (pointers (base + to) (chains_of heads rows count)))) to
-      (entry_bytes (base + to) (chains_of heads rows count))
+      sets (sets d (at + 8 * b) (word_bytes 8 (pointers (base + end) (rest heads rows b)))) end
+      (entry_bytes (base + end) (rest heads rows b))
+      ≡ sets (sets d₀ at (word_bytes 8 (pointers (base + to) (chains_of heads rows)))) to
+      (entry_bytes (base + to) (chains_of heads rows))
 
-module _ (heads rows : List ℕ) (count at to : ℕ) where
-  pub buckets-none : (d : List ℕ) → Buckets heads rows count at to d d 0 to
+module _ (heads rows : List ℕ) (at to : ℕ) where
+  pub buckets-none : (d : List ℕ) → Buckets heads rows at to d d 0 to
   buckets-none d =
       record { high = omega arith; low = omega arith; same = refl; counts = refl; is = simp (mul-zero, add-zero) refl }
 
-  rest-next :
-      (b : ℕ) → b < count → count ≤ length heads
-      → rest heads rows count b ≡ linked rows (get_or heads b 0) ∷ rest heads rows count (b + 1)
-  rest-next b l h =
-      let n : b < length (take count heads) = rw (length-take-le count heads h) l in
-      rw (add-one, drop-cons (take count heads) b 0 n, get_or-take count heads b 0 l)
+  rest-next : (b : ℕ) → b < length heads → rest heads rows b ≡ linked rows (get_or heads b 0) ∷ rest heads rows (b + 1)
+  rest-next b l = rw (add-one, drop-cons heads b 0 l)
 
-  length_rest : (b : ℕ) → b ≤ count → count ≤ length heads → length (rest heads rows count b) ≡ count - b
-  length_rest b l h =
-      length-map (drop b (take count heads)) (linked rows) ∙ length-drop b (take count heads) ∙ rw (length-take-le count heads h)
+  length_rest : (b : ℕ) → length (rest heads rows b) ≡ length heads - b
+  length_rest b = length-map (drop b heads) (linked rows) ∙ length-drop b heads
 
-  module _ {d₀ d : List ℕ} {b end : ℕ} (r : ChainsRoom heads rows count at to (length d₀)) (h : Buckets heads rows count at to
+  module _ {d₀ d : List ℕ} {b end : ℕ} (r : ChainsRoom heads rows at to (length d₀)) (h : Buckets heads rows at to
       d₀ d b end)
-      (l : b < count) where
-    counts-next : end + 16 * (length (linked rows (get_or heads b 0)) + entry_total (rest heads rows count (b + 1)))
-        ≡ to + 16 * entry_total (chains_of heads rows count)
+      (l : b < length heads) where
+    counts-next : end + 16 * (length (linked rows (get_or heads b 0)) + entry_total (rest heads rows (b + 1)))
+        ≡ to + 16 * entry_total (chains_of heads rows)
     unfolding entry_total
-    counts-next = rw (rest-next b l r.buckets) at h.counts
+    counts-next = rw (rest-next b l) at h.counts
 
     -- room for the pointer
     pub pointer-room : (at + 8 * b + 8 ≤ length d) × (end ≤ window)
@@ -195,25 +190,25 @@ module _ (heads rows : List ℕ) (count at to : ℕ) where
         {d₁ d₂ : List ℕ} {end' : ℕ} → d₁ ≡ sets d (at + 8 * b) (bytes 8 (pointer (base + end) (get_or heads b 0)))
         → end' ≡ end + 16 * length (linked rows (get_or heads b 0))
         → d₂ ≡ sets d₁ end (chain_bytes (base + end) (linked rows (get_or heads b 0)))
-        → Buckets heads rows count at to d₀ d₂ (b + 1) end'
+        → Buckets heads rows at to d₀ d₂ (b + 1) end'
     unfolding pointers entry_bytes entry_total word_bytes
     buckets-more {d₁} {d₂} {end'} e₁ en e₂ =
         let c = linked rows (get_or heads b 0) in
-        let cs = rest heads rows count (b + 1) in
+        let cs = rest heads rows (b + 1) in
         let p = bytes 8 (pointer (base + end) (length c)) in
         let ps = word_bytes 8 (pointers (base + end') cs) in
         let es = entry_bytes (base + end') cs in
         let a : base + end + 16 * length c ≡ base + end' = omega (arith, en) in
         let lp : length p ≡ 8 = length-bytes 8 (pointer (base + end) (length c)) in
         let lc = length-chain_bytes (base + end) c in
-        let lr = length_rest (b + 1) (omega arith) r.buckets in
-        let lps : length ps ≡ 8 * (count - (b + 1)) =
+        let lr = length_rest (b + 1) in
+        let lps : length ps ≡ 8 * (length heads - (b + 1)) =
         length-word_bytes 8 (pointers (base + end') cs) ∙ ap (λ (k : ℕ). 8 * k) (length-pointers (base + end') cs ∙ lr) in
         let f₁ : d₁ ≡ sets d (at + 8 * b) p = e₁ ∙ rw (pointer-linked rows (base + end) (get_or heads b 0)) in
         let f₂ : d₂ ≡ sets (sets d (at + 8 * b) p) end (chain_bytes (base + end) c) =
         e₂ ∙ ap (λ (x : List ℕ). sets x end (chain_bytes (base + end) c)) f₁ in
         let k : at + 8 * b + 8 ≡ at + 8 * (b + 1) = omega arith in
-        let whole = rw (rest-next b l r.buckets, a) at h.is in
+        let whole = rw (rest-next b l, a) at h.is in
         let turn = two_runs p ps (chain_bytes (base + end) c) es d (at + 8 * b) end (omega (arith, r.before, h.low, lp, lps)) in
         record {
           high = omega arith;
@@ -225,23 +220,22 @@ module _ (heads rows : List ℕ) (count at to : ℕ) where
 
   -- all buckets stored, and the fill behind their pointers
   pub buckets-all :
-      {d₀ d d' : List ℕ} {b end z : ℕ} → ChainsRoom heads rows count at to (length d₀) → Buckets heads rows count at to d₀ d b end
-      → count ≤ b → z ≡ fill (8 * count) → d' ≡ sets d (at + 8 * count) (replicate z 0) → ChainsLaid heads rows count at to d₀ d'
+      {d₀ d d' : List ℕ} {b end z : ℕ} → ChainsRoom heads rows at to (length d₀) → Buckets heads rows at to d₀ d b end
+      → length heads ≤ b → z ≡ fill (8 * length heads) → d' ≡ sets d (at + 8 * length heads) (replicate z 0) → ChainsLaid heads rows at to d₀ d'
   unfolding pointers entry_bytes word_bytes
   buckets-all {d₀} {d} {d'} {b} {end} {z} r h l ez e =
-      let cs = chains_of heads rows count in
+      let cs = chains_of heads rows in
       let ps = word_bytes 8 (pointers (base + to) cs) in
       let es = entry_bytes (base + to) cs in
+      let count = length heads in
       let zs : List ℕ = replicate (fill (8 * count)) 0 in
-      let past : length (take count heads) ≤ b = omega (arith, length-take-le count heads r.buckets) in
-      let None : drop b (take count heads) ≡ [] = drop_of_length-le (take count heads) past in
+      let none : drop b heads ≡ [] = drop_of_length-le heads l in
       let lp : length ps ≡ 8 * count =
       length-word_bytes 8 (pointers (base + to) cs)
-      ∙ ap (λ (k : ℕ). 8 * k) (length-pointers (base + to) cs ∙ length-map (take count heads) (linked rows) ∙ length-take-le
-      count heads r.buckets) in
+      ∙ ap (λ (k : ℕ). 8 * k) (length-pointers (base + to) cs ∙ length-map heads (linked rows)) in
       let lz : length zs ≡ fill (8 * count) = length-replicate (fill (8 * count)) 0 in
-      let f : d ≡ sets (sets d₀ at ps) to es = rw None at h.is in
-      let g : d' ≡ sets (sets (sets d₀ at ps) to es) (at + 8 * count) zs = rw (f, ez) at e in
-      let swap = sets_swap zs es (sets d₀ at ps) (at + 8 * count) to (omega (arith, lz, r.before)) in
-      let join : sets (sets d₀ at ps) (at + 8 * count) zs ≡ sets d₀ at (pad16 ps) = padded d₀ at ps lp refl refl in
+      let f : d ≡ sets (sets d₀ at ps) to es = rw none at h.is in
+      let g : d' ≡ sets (sets (sets d₀ at ps) to es) (at + 8 * length heads) zs = rw (f, ez) at e in
+      let swap = sets_swap zs es (sets d₀ at ps) (at + 8 * length heads) to (omega (arith, lz, r.before)) in
+      let join : sets (sets d₀ at ps) (at + 8 * length heads) zs ≡ sets d₀ at (pad16 ps) = padded d₀ at ps lp refl refl in
       record { is = g ∙ sym swap ∙ ap (λ (x : List ℕ). sets x to es) join }

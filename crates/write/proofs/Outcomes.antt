@@ -1,5 +1,6 @@
 -- The outcome by its steps: the tests of the bones, the derived tables, the child entries and the buffer. Assumes nothing.
-use mathlib.Core.Path.{◌≡◌, refl, sym, ap, ◌∙◌, subst}
+use mathlib.Core.Path.{◌≡◌, refl, sym, ◌∙◌}
+use Rattle.std.specs.Prelude.{Result, Ok, Err}
 use mathlib.Core.Bool.{Bool, true, false}
 use mathlib.Core.List.{List}
 use Prim.Native.Nat.{ℕ, ◌*◌, ◌≤◌, ◌<◌}
@@ -20,31 +21,22 @@ use Rattle.format.specs.Layout.{Bytes, layout}
 use Rattle.format.specs.Write.{good_names, named, written}
 use Rattle.rows.proofs.Rows.{length-bones_of}
 use Rattle.write.specs.Records.{takes_all}
-use Rattle.write.specs.Names.{names_result, measured_of, RowsHere}
+use Rattle.write.specs.Names.{names_result, RowsHere}
 use Rattle.write.specs.Filling.{kids_of, Held}
 use Rattle.write.specs.Outcome.{outcome, Writes, tested, derived_in, laid_out}
-use Rattle.write.specs.Tests.{tested_of}
-use Rattle.write.specs.Working.{DerivedRows, HeldBy, derived_of}
+use Rattle.write.specs.Working.{DerivedRows}
 use Rattle.tables.specs.Working.{Working}
-use Rattle.write.specs.declared.Written.{Written}
-use Rattle.write.specs.declared.Written.TheVariants.{Done, Refused}
-use Rattle.write.specs.declared.outcome.Tested.{Tested}
-use Rattle.write.specs.declared.outcome.Tested.TheVariants as checked
-use Rattle.write.specs.declared.working.Derived.{Derived}
-use Rattle.write.specs.declared.working.Derived.TheVariants as derived
-use Rattle.write.specs.declared.names.Measured.{Measured}
-use Rattle.write.specs.declared.names.Measured.TheVariants as measured
 
 -- ---- a refusal leaves the buffer as it was
 
-pub writes_refused : {w : Res Bytes} {r : Refusal} (out : List ℕ) → w ≡ refused (number r) → Writes w (Refused r) out out
+pub writes_refused : {w : Res Bytes} {r : Refusal} (out : List ℕ) → w ≡ refused (number r) → Writes w (Err r) out out
 writes_refused out e = record { answer = rw e; buffer = rw e }
 
 pub writes_done : {w : Res Bytes} {n : ℕ} (b : Bytes) {out out' : List ℕ} → w ≡ done b → n ≡ length b → out' ≡ sets out 0 b →
-    Writes w (Done n) out out'
+    Writes w (Ok n) out out'
 writes_done b e f g = record { answer = rw (e, f); buffer = rw e g }
 
-pub writes_same : {w w' : Res Bytes} {r : Written} {out out' : List ℕ} → w' ≡ w → Writes w r out out' → Writes w' r out out'
+pub writes_same : {w w' : Res Bytes} {r : Result ℕ Refusal} {out out' : List ℕ} → w' ≡ w → Writes w r out out' → Writes w' r out out'
 writes_same e h = rw e h
 
 -- ---- the tests of the bones
@@ -61,18 +53,6 @@ module _ (lent : Section) (n : ℕ) (t : List ℕ) where
   pub tested-names : n ≤ 65535 → 21 * n ≤ length t → tested lent n t ≡ names_result lent (bones_of n t)
   unfolding tested
   tested-names h k = rw (le-leb n 65535 h, le-leb (21 * n) (length t) k)
-
-  -- the ways out of the test
-  pub checked-names :
-      {m : Measured} {s : ℕ} → n ≤ 65535 → 21 * n ≤ length t → measured_of m ≡ names_result lent (bones_of n t) → m ≡
-      measured.Bytes s
-      → done s ≡ tested lent n t
-  checked-names h k e q = ap measured_of (sym q) ∙ e ∙ sym (tested-names h k)
-
-  pub checked_bad :
-      {m : Measured} → n ≤ 65535 → 21 * n ≤ length t → measured_of m ≡ names_result lent (bones_of n t) → m ≡ measured.Bad
-      → refused 4 ≡ tested lent n t
-  checked_bad h k e q = ap measured_of (sym q) ∙ e ∙ sym (tested-names h k)
 
 -- ---- what a passed test tells, and what a refusal means
 
@@ -92,10 +72,9 @@ names_by lent bs s e = by (good_names lent bs) refl e
     by true q f = (q, cc)
     by false q f = let z : ◌≡◌ {A = ℕ} 0 1 = cc in absurd (omega arith)
 
-pub sound : (lent : Section) (n : ℕ) (t : List ℕ) {r : Tested} {s : ℕ} → tested_of r ≡ tested lent n t → r ≡ checked.Names s →
-    Sound lent n t s
+pub sound : (lent : Section) (n : ℕ) (t : List ℕ) {s : ℕ} → done s ≡ tested lent n t → Sound lent n t s
 unfolding tested
-sound lent n t {r} {s} e q = by (leb n 65535) (leb (21 * n) (length t)) refl refl (ap tested_of (sym q) ∙ e)
+sound lent n t {s} e = by (leb n 65535) (leb (21 * n) (length t)) refl refl e
   where
     by :
         (x y : Bool) → leb n 65535 ≡ x → leb (21 * n) (length t) ≡ y
@@ -122,12 +101,10 @@ module _ (lent : Section) (room : DeriveRoom) (size n : ℕ) (t : List ℕ) (fre
   outcome_by true true true c rest e = let z : ◌≡◌ {A = ℕ} 0 1 = cc in absurd (omega arith)
 
   pub outcome-refused :
-      {r : Tested} {x : Refusal} → tested_of r ≡ tested lent n t → r ≡ checked.Refused x
-      → outcome lent room size n t free ≡ refused (number x)
+      {c : ℕ} → refused c ≡ tested lent n t → outcome lent room size n t free ≡ refused c
   unfolding outcome written tested names_result
-  outcome-refused {r} {x} e q =
-      rw (length-bones_of n t)
-      (outcome_by (leb n 65535) (leb (21 * n) (length t)) (good_names lent (bones_of n t)) (number x) _ (ap tested_of (sym q) ∙ e))
+  outcome-refused {c} e =
+      rw (length-bones_of n t) (outcome_by (leb n 65535) (leb (21 * n) (length t)) (good_names lent (bones_of n t)) c _ e)
 
   -- bones that pass: the tables, the child entries and the buffer are left
   pub outcome-sound :
@@ -166,11 +143,9 @@ module _ (lent : Section) (room : DeriveRoom) (size n : ℕ) (t : List ℕ) (fre
 
   -- tables that are too short
   pub outcome-short :
-      {r : Derived} {x : Refusal} → derived_of r ≡ derived_in room n t → r ≡ derived.Refused x
-      → outcome lent room size n t free ≡ refused (number x)
+      {c : ℕ} → refused c ≡ derived_in room n t → outcome lent room size n t free ≡ refused c
   unfolding derived_in
-  outcome-short {r} {x} e q =
-      outcome-sound lent room size n t free h ∙ derived_by (derives room n) (number x) _ (ap derived_of (sym q) ∙ e)
+  outcome-short {c} e = outcome-sound lent room size n t free h ∙ derived_by (derives room n) c _ e
 
   kids_by :
       (d : Bool) (k : ℕ) (rest : Res Bytes) → done k ≡ (need 1 d >>= λ u. done (length (kids_of (bones_of n t))))
@@ -180,41 +155,43 @@ module _ (lent : Section) (room : DeriveRoom) (size n : ℕ) (t : List ℕ) (fre
 
   -- tables that were derived: the child entries and the buffer are left
   pub outcome-derived :
-      {r : Derived} {k : ℕ} → derived_of r ≡ derived_in room n t → r ≡ derived.Children k
+      {k : ℕ} → done k ≡ derived_in room n t
       → (outcome lent room size n t free ≡ laid_out lent size (bones_of n t) free) × (k ≡ length (kids_of (bones_of n t)))
   unfolding derived_in
-  outcome-derived {r} {k} e q =
-      let m = kids_by (derives room n) k (laid_out lent size (bones_of n t) free) (ap derived_of (sym q) ∙ e) in
+  outcome-derived {k} e =
+      let m = kids_by (derives room n) k (laid_out lent size (bones_of n t) free) e in
       (outcome-sound lent room size n t free h ∙ m.0, m.1)
 
--- the tables of a call that refused nothing
-pub rows-held : {r : Derived} {k n : ℕ} {t : List ℕ} {x : Working} → HeldBy r n t x → r ≡ derived.Children k → DerivedRows n t x
-rows-held {n = n} {t = t} {x = x} h e = subst (λ (d : Derived). HeldBy d n t x) e h
-
 -- what filling asks for
-pub all_held :
+held_rows :
     {lent : Section} {n : ℕ} {t : List ℕ} {s c k : ℕ} {x : Working} → Sound lent n t s → DerivedRows n t x → c ≡ bucket_count n
     → k ≡ length (kids_of (bones_of n t))
-    → Held (record { bones = n; buckets = c; children = k; names = s }) lent t x.buckets x.entries x.inverse x.local
-    x.parents x.children
-all_held {lent} {n} {t} {s} {c} {k} {x} h r ec ek =
+    → Held (record { buckets = c; children = k; names = s }) lent (bones_of n t) x.buckets x.entries x.inverse x.local x.parents
+    x.children
+held_rows {lent} {n} {t} {s} {c} {k} {x} h r ec ek =
+    let l = length-bones_of n t in
     record {
-      few = h.here.few;
-      bone_rows = h.here.rows;
+      few = rw l h.here.few;
       good = h.good;
-      buckets_is = ec;
+      buckets_is = rw l ec;
       children_is = ek;
       names_is = h.names;
-      heads_hold = r.heads_hold;
+      heads_hold = rw l r.heads_hold;
       heads_are = r.heads_are;
-      rows_hold = r.rows_hold;
+      rows_hold = rw l r.rows_hold;
       rows_are = r.rows_are;
-      inverse_holds = r.inverse_holds;
+      inverse_holds = rw l r.inverse_holds;
       inverse_is = r.inverse_is;
-      local_holds = r.local_holds;
+      local_holds = rw l r.local_holds;
       local_is = r.local_is;
-      parents_hold = r.parents_hold;
+      parents_hold = rw l r.parents_hold;
       parents_are = r.parents_are;
       children_hold = omega (arith, ek, r.children_hold);
       children_are = r.children_are;
     }
+
+pub all_held :
+    {lent : Section} {n : ℕ} {t : List ℕ} {s c k : ℕ} {bones : List (Bone Place)} {x : Working} → Sound lent n t s
+    → DerivedRows n t x → c ≡ bucket_count n → k ≡ length (kids_of (bones_of n t)) → bones ≡ bones_of n t
+    → Held (record { buckets = c; children = k; names = s }) lent bones x.buckets x.entries x.inverse x.local x.parents x.children
+all_held h r ec ek eb = rw eb (held_rows h r ec ek)

@@ -2,6 +2,7 @@
 -- Assumes nothing.
 use mathlib.Core.Path.{◌≡◌, refl, sym, ap, ◌∙◌}
 use mathlib.Core.Bool.{Bool, true, false}
+use Rattle.std.specs.Prelude.{Ok, Err}
 use mathlib.Core.List.{List, flat_map}
 use Prim.Native.Nat.{ℕ, ◌+◌, ◌-◌, ◌*◌, ◌≤◌}
 use native.Mathlib.Omega.{arith}
@@ -37,7 +38,6 @@ use Rattle.write.specs.Filling.{kids_of}
 use Rattle.write.specs.Outcome.{derived_in}
 use Rattle.write.specs.Working.{Derives}
 use Rattle.tables.specs.Working.{Working, room_in}
-use Rattle.write.specs.declared.working.Derived.TheVariants.{Children, Refused}
 
 -- ---- room, by numbers
 
@@ -211,7 +211,7 @@ module _ (n : ℕ) (t : List ℕ) (x : Working) (here : RowsHere t n) where
       → MatrixRows (matrices_result n (length t) (length x.inverse) (length x.local)) (bones_of n t) x.inverse y.inverse x.local y.local
       → y.parents ≡ leaves indices_give (parents (bones_of n t)) (length x.parents)
       → y.children ≡ leaves indices_give (children_of n t) (length x.children)
-      → Derives n t (Children k) x y
+      → Derives n t (Ok k) x y
   unfolding derived_in
   all-derived {r₁} {c} {r₂} {r₃} {k} y e₁ q₁ e₂ q₂ e₃ q₃ s hb he hm hp hc =
       let i = indices_room_lem e₃ q₃ in
@@ -242,5 +242,5 @@ module _ (n : ℕ) (t : List ℕ) (x : Working) (here : RowsHere t n) where
       }
 
   -- a refusal of any call
-  pub derived_stops : {y : Refusal} (z : Working) → refused (number y) ≡ derived_in (room_in x) n t → Derives n t (Refused y) x z
+  pub derived_stops : {y : Refusal} (z : Working) → refused (number y) ≡ derived_in (room_in x) n t → Derives n t (Err y) x z
   derived_stops z e = record { answer = e; rows = tt }

@@ -1,36 +1,22 @@
 -- `write::outcome::check_bones` meets its contract. Assumes nothing.
-use Rattle.blocks.specs.Places.{section}
-use Rattle.write.proofs.Outcomes.{tested_many, tested-short, checked-names, checked_bad}
+use mathlib.Core.Path.{sym, ◌∙◌, ap}
+use native.Mathlib.Omega.{arith}
+use Rattle.write.specs.Names.{names_result}
+use Rattle.write.proofs.Outcomes.{tested_many, tested-short, tested-names}
 use Rattle.write.proofs.outcome.check_bones.Goals as goal
 
 pub returns-then-n-gt-MOST : goal.returns-then-n-gt-MOST
-returns-then-n-gt-MOST c =
-    record {
-      answer = tested_many (section c.args.sys.now c.args.gfx.now) c.args.n c.args.bones.now c.if-n-gt-MOST.true;
-    }
+returns-then-n-gt-MOST c = record { answer = tested_many _ _ _ c.if-n-gt-MOST.true }
 
 pub returns-then-bones-n : goal.returns-then-bones-n
-returns-then-bones-n c =
-    record {
-      answer =
-          tested-short (section c.args.sys.now c.args.gfx.now) c.args.n c.args.bones.now c.if-n-gt-MOST.false c.if-bones-n.true;
-    }
+returns-then-bones-n c = record { answer = tested-short _ _ _ c.if-n-gt-MOST.false c.if-bones-n.true }
 
 pub measure_names-requires : goal.measure_names-requires
-measure_names-requires c = record { rows = c.if-bones-n.false; few = c.if-n-gt-MOST.false }
+measure_names-requires c = omega (arith, c.rows_of.ensures.count, c.if-n-gt-MOST.false)
 
-pub returns-in-Bytes : goal.returns-in-Bytes
-returns-in-Bytes c =
-    record {
-      answer =
-          checked-names (section c.args.sys.now c.args.gfx.now) c.args.n c.args.bones.now c.if-n-gt-MOST.false
-          c.if-bones-n.false c.measure_names.ensures.answer c.in-Bytes.is;
-    }
-
-pub returns-in-Bad : goal.returns-in-Bad
-returns-in-Bad c =
-    record {
-      answer =
-          checked_bad (section c.args.sys.now c.args.gfx.now) c.args.n c.args.bones.now c.if-n-gt-MOST.false c.if-bones-n.false
-          c.measure_names.ensures.answer c.in-Bad.is;
-    }
+pub returns : goal.returns
+returns c = record {
+  answer =
+      c.measure_names.ensures.answer ∙ ap (names_result _) c.rows_of.ensures.bones
+      ∙ sym (tested-names _ _ _ c.if-n-gt-MOST.false c.if-bones-n.false);
+}

@@ -1,5 +1,5 @@
 -- `write::words::put_zeros` meets its contract. Assumes nothing.
-use Prim.Native.Nat.{ℕ}
+use Rattle.std.proofs.Common.{rules}
 use mathlib.Core.Path.{sym}
 use lib.ListN.{replicate, length-replicate}
 use Rattle.write.proofs.Runs.{part-stored}
