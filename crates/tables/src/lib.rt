@@ -2,6 +2,8 @@
 // buffer.
 #![tactic(auto)]
 
+pub mod working; // the tables that deriving fills
+
 ghost use Rattle.std.specs.Prelude.{◌≡◌, ◌++◌, ◌-◌, length, take};
 ghost use Rattle.format.specs.Rows.{cleared};
 ghost use Rattle.tables.specs.Front.{front_of};

@@ -22,9 +22,8 @@ use Rattle.format.specs.Write.{good_names, named, written}
 use Rattle.rows.proofs.Rows.{length-bones_of}
 use Rattle.write.specs.Records.{takes_all}
 use Rattle.write.specs.Names.{names_result, RowsHere}
-use Rattle.write.specs.Filling.{kids_of, Held}
+use Rattle.write.specs.Filling.{kids_of, DerivedRows, Held}
 use Rattle.write.specs.Outcome.{outcome, Writes, tested, derived_in, laid_out}
-use Rattle.write.specs.Working.{DerivedRows}
 use Rattle.tables.specs.Working.{Working}
 
 -- ---- a refusal leaves the buffer as it was
@@ -163,35 +162,11 @@ module _ (lent : Section) (room : DeriveRoom) (size n : ℕ) (t : List ℕ) (fre
       (outcome-sound lent room size n t free h ∙ m.0, m.1)
 
 -- what filling asks for
-held_rows :
-    {lent : Section} {n : ℕ} {t : List ℕ} {s c k : ℕ} {x : Working} → Sound lent n t s → DerivedRows n t x → c ≡ bucket_count n
-    → k ≡ length (kids_of (bones_of n t))
-    → Held (record { buckets = c; children = k; names = s }) lent (bones_of n t) x.buckets x.entries x.inverse x.local x.parents
-    x.children
-held_rows {lent} {n} {t} {s} {c} {k} {x} h r ec ek =
-    let l = length-bones_of n t in
-    record {
-      few = rw l h.here.few;
-      good = h.good;
-      buckets_is = rw l ec;
-      children_is = ek;
-      names_is = h.names;
-      heads_hold = rw l r.heads_hold;
-      heads_are = r.heads_are;
-      rows_hold = rw l r.rows_hold;
-      rows_are = r.rows_are;
-      inverse_holds = rw l r.inverse_holds;
-      inverse_is = r.inverse_is;
-      local_holds = rw l r.local_holds;
-      local_is = r.local_is;
-      parents_hold = rw l r.parents_hold;
-      parents_are = r.parents_are;
-      children_hold = omega (arith, ek, r.children_hold);
-      children_are = r.children_are;
-    }
-
 pub all_held :
     {lent : Section} {n : ℕ} {t : List ℕ} {s c k : ℕ} {bones : List (Bone Place)} {x : Working} → Sound lent n t s
-    → DerivedRows n t x → c ≡ bucket_count n → k ≡ length (kids_of (bones_of n t)) → bones ≡ bones_of n t
-    → Held (record { buckets = c; children = k; names = s }) lent bones x.buckets x.entries x.inverse x.local x.parents x.children
-all_held h r ec ek eb = rw eb (held_rows h r ec ek)
+    → DerivedRows (bones_of n t) x → c ≡ bucket_count n → k ≡ length (kids_of (bones_of n t)) → bones ≡ bones_of n t
+    → Held (record { buckets = c; children = k; names = s }) lent bones x
+all_held {n = n} {t = t} h r ec ek eb =
+    let l = length-bones_of n t in
+    rw eb
+    (record { few = rw l h.here.few; good = h.good; buckets_is = rw l ec; children_is = ek; names_is = h.names; rows = r })

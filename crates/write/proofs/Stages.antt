@@ -20,6 +20,7 @@ use Rattle.derive_chains.proofs.Counts.{entries_le}
 use Rattle.write.specs.Placing.{Counts, SkeletonCounts}
 use Rattle.format.specs.Section.{window}
 use Rattle.write.specs.Linked.{chains_of, ChainsRoom, ChainsLaid}
+use Rattle.tables.specs.Working.{Working}
 use Rattle.write.specs.Records.{takes_all}
 use Rattle.write.specs.Filling.{BonesPart, bones_stored, ListsRoom, lists_stored, kids_of, Held, PartsPlaced}
 use Rattle.write.specs.declared.filling.Sizes.{Sizes}
@@ -71,8 +72,7 @@ stands-first (suc k) (x ∷ xs) rows h (suc b) = stands-first k xs rows (λ c. h
 
 -- the numbers of the parts are small
 pub counts-small :
-    {s : Sizes} {lent : Section} {bones : List (Bone Place)} {heads rows inverse local ps cs : List ℕ}
-    → Held s lent bones heads rows inverse local ps cs
+    {s : Sizes} {lent : Section} {bones : List (Bone Place)} {x : Working} → Held s lent bones x
     → Counts (bucket_count (length bones)) (entry_count (length bones)) (length bones) (takes_all bones)
 counts-small {lent = lent} {bones = bones} h =
     record {
@@ -82,8 +82,8 @@ counts-small {lent = lent} {bones = bones} h =
       names_few = omega (arith, takes_le lent bones h.good, h.few);
     }
 
-module _ {at : Starts} {s : Sizes} {lent : Section} {table : List (List ℕ)} {heads rows inverse local ps cs : List ℕ} {size : ℕ}
-    (r : PartsPlaced at s lent table heads rows inverse local ps cs size) where
+module _ {at : Starts} {s : Sizes} {lent : Section} {table : List (List ℕ)} {x : Working} {size : ℕ}
+    (r : PartsPlaced at s lent table x size) where
   abbrev bones : List (Bone Place)
   bones = map bone_of table
 
@@ -128,40 +128,43 @@ module _ {at : Starts} {s : Sizes} {lent : Section} {table : List (List ℕ)} {h
         omega (arith, q.buckets, q.entries, q.bones, q.names, q.inverse, q.local, q.parents, q.children),
       )
 
-  -- the first rows that the tables hold
-  pub heads_stand : s.buckets ≤ length heads
-  heads_stand = omega (arith, r.held.buckets_is, r.held.heads_hold)
+  -- the first x.entries that the tables hold
+  pub heads_stand : s.buckets ≤ length x.buckets
+  heads_stand = omega (arith, r.held.buckets_is, r.held.rows.heads_hold)
 
-  pub inverse_stands : 16 * n ≤ length inverse
-  inverse_stands = rw lb at r.held.inverse_holds
+  pub inverse_stands : 16 * n ≤ length x.inverse
+  inverse_stands = rw lb at r.held.rows.inverse_holds
 
-  pub local_stands : 16 * n ≤ length local
-  local_stands = rw lb at r.held.local_holds
+  pub local_stands : 16 * n ≤ length x.local
+  local_stands = rw lb at r.held.rows.local_holds
 
-  pub parents_stand : n ≤ length ps
-  parents_stand = rw lb at r.held.parents_hold
+  pub parents_stand : n ≤ length x.parents
+  parents_stand = rw lb at r.held.rows.parents_hold
 
-  chains_are : chains_of (take s.buckets heads) rows ≡ chains (tags bones)
+  pub children_stand : s.children ≤ length x.children
+  children_stand = omega (arith, r.held.children_is, r.held.rows.children_hold)
+
+  chains_are : chains_of (take s.buckets x.buckets) x.entries ≡ chains (tags bones)
   chains_are =
       let m = length-tags lent bones n lb at r.held.good r.placed in
       let e : s.buckets ≡ bucket_count (length (tags bones)) = buckets_are ∙ ap bucket_count (sym m) in
-      rw e (chains-linked (tags bones) rows (length rows) r.held.rows_are heads (length heads) r.held.heads_are)
+      rw e (chains-linked (tags bones) x.entries (length x.entries) r.held.rows.rows_are x.buckets (length x.buckets) r.held.rows.heads_are)
 
-  pub chains_ask : {m : ℕ} → m ≡ size → ChainsRoom (take s.buckets heads) rows at.buckets at.entries m
+  pub chains_ask : {m : ℕ} → m ≡ size → ChainsRoom (take s.buckets x.buckets) x.entries at.buckets at.entries m
   chains_ask {m} em =
       let q = rising in_order in
       let l = last_le in
       let f = room_le r.fits in
       let k = length-tags lent bones n lb at r.held.good r.placed in
-      let total : entry_total (chains_of (take s.buckets heads) rows) ≡ entry_count n =
+      let total : entry_total (chains_of (take s.buckets x.buckets) x.entries) ≡ entry_count n =
       ap entry_total chains_are ∙ chains_total lent bones n lb at r.held.good r.placed in
-      let hold : 3 * entry_count (length (tags bones)) ≤ length rows = rw (k, ← lb) r.held.rows_hold in
-      let c : length (take s.buckets heads) ≡ bucket_count n = length-take-le s.buckets heads heads_stand ∙ buckets_are in
+      let hold : 3 * entry_count (length (tags bones)) ≤ length x.entries = rw (k, ← lb) r.held.rows.rows_hold in
+      let c : length (take s.buckets x.buckets) ≡ bucket_count n = length-take-le s.buckets x.buckets heads_stand ∙ buckets_are in
       record {
-        falls = rows_fall (tags bones) rows (length rows) r.held.rows_are;
+        falls = rows_fall (tags bones) x.entries (length x.entries) r.held.rows.rows_are;
         stands =
-            stands-first s.buckets heads rows
-            (heads-stand (tags bones) rows (length rows) r.held.rows_are heads (length heads) r.held.heads_are hold);
+            stands-first s.buckets x.buckets x.entries
+            (heads-stand (tags bones) x.entries (length x.entries) r.held.rows.rows_are x.buckets (length x.buckets) r.held.rows.heads_are hold);
         before = rw (in_order.entries, c) (le_refl _);
         room = omega (arith, em, total, q.bones, q.names, q.inverse, q.local, q.parents, q.children);
         small = omega (arith, total, q.bones, q.names, q.inverse, q.local, q.parents, q.children);
@@ -188,41 +191,41 @@ module _ {at : Starts} {s : Sizes} {lent : Section} {table : List (List ℕ)} {h
       }
 
   pub lists_ask :
-      {m : ℕ} → m ≡ size → ListsRoom at (take (16 * n) inverse) (take (16 * n) local) (take n ps) (take s.children cs) m
+      {m : ℕ} → m ≡ size → ListsRoom at (take (16 * n) x.inverse) (take (16 * n) x.local) (take n x.parents) (take s.children x.children) m
   lists_ask {m} em =
       let q = rising in_order in
       let f = room_le r.fits in
       let inside : at.children ≤ m = omega (arith, em) in
       record {
         inverse_room =
-            omega (arith, length-take-le (16 * n) inverse inverse_stands, q.local, q.parents, q.children, inside);
-        local_room = omega (arith, length-take-le (16 * n) local local_stands, q.parents, q.children, inside);
-        parent_room = rw (length-take-le n ps parents_stand) (rw in_order.children at inside);
-        child_room = rw (length-take-le s.children cs r.held.children_hold, em) r.fits;
+            omega (arith, length-take-le (16 * n) x.inverse inverse_stands, q.local, q.parents, q.children, inside);
+        local_room = omega (arith, length-take-le (16 * n) x.local local_stands, q.parents, q.children, inside);
+        parent_room = rw (length-take-le n x.parents parents_stand) (rw in_order.children at inside);
+        child_room = rw (length-take-le s.children x.children children_stand, em) r.fits;
       }
 
   -- what the stages leave, one after the other
   pub section_filled :
       (free : Words4) (d : List ℕ) {d₁ d₂ d₃ d₄ : List ℕ}
       → d₁ ≡ sets d 0 (lay (skeleton_items at free n s.buckets s.children))
-      → ChainsLaid (take s.buckets heads) rows at.buckets at.entries d₁ d₂
+      → ChainsLaid (take s.buckets x.buckets) x.entries at.buckets at.entries d₁ d₂
       → d₃ ≡ bones_stored at lent bones d₂
-      → d₄ ≡ lists_stored at (take (16 * n) inverse) (take (16 * n) local) (take n ps) (take s.children cs) d₃
+      → d₄ ≡ lists_stored at (take (16 * n) x.inverse) (take (16 * n) x.local) (take n x.parents) (take s.children x.children) d₃
       → d₄ ≡ sets d 0 (layout (named lent bones) free)
   section_filled free d e₁ e₂ e₃ e₄ =
       let x₂ = rw chains_are at e₂.is in
-      let i = rows-first (inverses bones) (length inverse) (16 * n) r.held.inverse_is (length-inverses bones ∙ ap (λ (k : ℕ). 16 * k)
+      let i = rows-first (inverses bones) (length x.inverse) (16 * n) r.held.rows.inverse_is (length-inverses bones ∙ ap (λ (k : ℕ). 16 * k)
       lb) in
-      let l = rows-first (locals bones) (length local) (16 * n) r.held.local_is (length_locals bones ∙ ap (λ (k : ℕ). 16 * k) lb) in
-      let p = rows-first (parents bones) (length ps) n r.held.parents_are (length-map bones (λ (b : Bone Place). b.parent) ∙ lb) in
-      let k = rows-first (kids_of bones) (length cs) s.children r.held.children_are (sym r.held.children_is) in
+      let l = rows-first (locals bones) (length x.local) (16 * n) r.held.rows.local_is (length_locals bones ∙ ap (λ (k : ℕ). 16 * k) lb) in
+      let p = rows-first (parents bones) (length x.parents) n r.held.rows.parents_are (length-map bones (λ (b : Bone Place). b.parent) ∙ lb) in
+      let k = rows-first (kids_of bones) (length x.children) s.children r.held.rows.children_are (sym r.held.children_is) in
       let x₄ = rw (i, l, p, k) at e₄ in
       x₄ ∙ rw (e₃, x₂, e₁) (section-stored lent bones n lb at r.held.good r.placed free d buckets_are r.held.children_is)
 
 -- ---- placing, as the code does
 
-module _ {s : Sizes} {lent : Section} (table : List (List ℕ)) {heads rows inverse local ps cs : List ℕ}
-    (h : Held s lent (map bone_of table) heads rows inverse local ps cs) {e : ℕ} (ee : e ≡ entry_count (length table)) where
+module _ {s : Sizes} {lent : Section} (table : List (List ℕ)) {x : Working}
+    (h : Held s lent (map bone_of table) x) {e : ℕ} (ee : e ≡ entry_count (length table)) where
   lb_by : length (map bone_of table) ≡ length table
   lb_by = length-map table bone_of
 
@@ -252,5 +255,5 @@ module _ {s : Sizes} {lent : Section} (table : List (List ℕ)) {heads rows inve
       size_is free =
           length-layout lent (map bone_of table) (length table) (lb_by) at h.good placed_as free ∙ rw (em, h.children_is)
 
-      pub ready : {size : ℕ} → s.children ≤ 65535 → m ≤ size → PartsPlaced at s lent table heads rows inverse local ps cs size
+      pub ready : {size : ℕ} → s.children ≤ 65535 → m ≤ size → PartsPlaced at s lent table x size
       ready k l = record { held = h; kids_few = k; placed = placed_as; fits = omega (arith, em) }

@@ -33,6 +33,7 @@ use Rattle.derive_matrices.specs.Transforming.{matrices_hold, matrices_result, t
 use Rattle.derive_matrices.proofs.MatrixRoom.{holds-all}
 use Rattle.derive_matrices.specs.declared.matrices.Transformed.{Transformed}
 use Rattle.derive_matrices.specs.declared.matrices.Transformed.TheVariants as transformed
+use Rattle.rows.proofs.Rows.{length-bones_of}
 use Rattle.write.specs.Names.{RowsHere}
 use Rattle.write.specs.Filling.{kids_of}
 use Rattle.write.specs.Outcome.{derived_in}
@@ -222,19 +223,20 @@ module _ (n : ℕ) (t : List ℕ) (x : Working) (here : RowsHere t n) where
       let l = rw (← (ap transformed_of (sym q₂) ∙ e₂)) at hm.local in
       let p = rw (← (ap indexed_of (sym q₃) ∙ e₃)) at hp in
       let w = rw (← (ap indexed_of (sym q₃) ∙ e₃)) at hc in
+      let n' = length-bones_of n t in
       record {
         answer = rw (rooms.enough_derives n _ _ _ _ _ _ _ room, i.1);
         rows =
             record {
-              heads_hold = omega (arith, room.buckets, s.buckets);
+              heads_hold = omega (arith, room.buckets, s.buckets, ap bucket_count n');
               heads_are = still-laid (bucket_rows (tags (bones_of n t))) (length x.buckets) b s.buckets;
-              rows_hold = omega (arith, room.entries, s.entries);
+              rows_hold = omega (arith, room.entries, s.entries, ap entry_count n');
               rows_are = still-laid (flat_map entry_words (entry_rows (tags (bones_of n t)))) (length x.entries) e s.entries;
-              inverse_holds = omega (arith, room.inverse, s.inverse);
+              inverse_holds = omega (arith, room.inverse, s.inverse, n');
               inverse_is = still-laid (inverses (bones_of n t)) (length x.inverse) v s.inverse;
-              local_holds = omega (arith, room.local, s.local);
+              local_holds = omega (arith, room.local, s.local, n');
               local_is = still-laid (locals (bones_of n t)) (length x.local) l s.local;
-              parents_hold = omega (arith, room.parents, s.parents);
+              parents_hold = omega (arith, room.parents, s.parents, n');
               parents_are = still-laid (parents (bones_of n t)) (length x.parents) p s.parents;
               children_hold = omega (arith, laid-fits (kids_of (bones_of n t)) (length x.children) w s.children, s.children);
               children_are = still-laid (kids_of (bones_of n t)) (length x.children) w s.children;

@@ -13,6 +13,7 @@ use Rattle.derive_chains.specs.ChainRows.{bucket_rows, entry_rows}
 use Rattle.format.specs.Rows.{entry_words, laid, bone_of}
 use Rattle.format.specs.Layout.{base, after, pad16, all_names, Starts, starts}
 use Rattle.format.specs.Write.{good_names, named}
+use Rattle.tables.specs.Working.{Working}
 use Rattle.write.specs.Records.{takes_all, block, BlockRoom}
 use Rattle.write.specs.declared.filling.Sizes.{Sizes}
 
@@ -48,32 +49,34 @@ lists_stored at inverse local parents children d =
 abbrev pub kids_of : List (Bone Place) → List ℕ
 kids_of bones = Children.children (indices bones) (parents bones)
 
--- Good names, and the derived tables hold what follows from the bones.
-pub record Held (s : Sizes) (lent : Section) (bones : List (Bone Place)) (heads rows inverse local ps cs : List ℕ) : Type 0 where
+-- the tables hold what follows from some bones
+pub record DerivedRows (bones : List (Bone Place)) (x : Working) : Type 0 where
+  pub heads_hold : bucket_count (length bones) ≤ length x.buckets
+  pub heads_are : x.buckets ≡ laid (bucket_rows (tags bones)) (length x.buckets)
+  pub rows_hold : 3 * entry_count (length bones) ≤ length x.entries
+  pub rows_are : x.entries ≡ laid (flat_map entry_words (entry_rows (tags bones))) (length x.entries)
+  pub inverse_holds : 16 * length bones ≤ length x.inverse
+  pub inverse_is : x.inverse ≡ laid (inverses bones) (length x.inverse)
+  pub local_holds : 16 * length bones ≤ length x.local
+  pub local_is : x.local ≡ laid (locals bones) (length x.local)
+  pub parents_hold : length bones ≤ length x.parents
+  pub parents_are : x.parents ≡ laid (parents bones) (length x.parents)
+  pub children_hold : length (kids_of bones) ≤ length x.children
+  pub children_are : x.children ≡ laid (kids_of bones) (length x.children)
+
+-- good names, and the tables derived from the bones
+pub record Held (s : Sizes) (lent : Section) (bones : List (Bone Place)) (x : Working) : Type 0 where
   pub few : length bones ≤ 65535
   pub good : good_names lent bones ≡ true
   pub buckets_is : s.buckets ≡ bucket_count (length bones)
   pub children_is : s.children ≡ length (kids_of bones)
   pub names_is : s.names ≡ takes_all bones
-  pub heads_hold : bucket_count (length bones) ≤ length heads
-  pub heads_are : heads ≡ laid (bucket_rows (tags bones)) (length heads)
-  pub rows_hold : 3 * entry_count (length bones) ≤ length rows
-  pub rows_are : rows ≡ laid (flat_map entry_words (entry_rows (tags bones))) (length rows)
-  pub inverse_holds : 16 * length bones ≤ length inverse
-  pub inverse_is : inverse ≡ laid (inverses bones) (length inverse)
-  pub local_holds : 16 * length bones ≤ length local
-  pub local_is : local ≡ laid (locals bones) (length local)
-  pub parents_hold : length bones ≤ length ps
-  pub parents_are : ps ≡ laid (parents bones) (length ps)
-  pub children_hold : s.children ≤ length cs
-  pub children_are : cs ≡ laid (kids_of bones) (length cs)
+  pub rows : DerivedRows bones x
 
 -- The parts are placed, and the buffer has room.
-pub record PartsPlaced
-    (at : Starts) (s : Sizes) (lent : Section) (table : List (List ℕ)) (heads rows inverse local ps cs : List ℕ)
-    (size : ℕ) : Type 0 where
-  pub held : Held s lent (map bone_of table) heads rows inverse local ps cs
+pub record PartsPlaced (at : Starts) (s : Sizes) (lent : Section) (rows : List (List ℕ)) (x : Working) (size : ℕ) : Type 0 where
+  pub held : Held s lent (map bone_of rows) x
   pub kids_few : s.children ≤ 65535
   pub placed :
-      at ≡ starts (bucket_count (length table)) (entry_count (length table)) (length table) (takes_all (map bone_of table))
+      at ≡ starts (bucket_count (length rows)) (entry_count (length rows)) (length rows) (takes_all (map bone_of rows))
   pub fits : after at.children (2 * s.children) ≤ size

@@ -9,6 +9,7 @@ ghost use Rattle.blocks.specs.Places.{section_of};
 ghost use Rattle.write.specs.Placing.{meant_starts};
 ghost use Rattle.format.specs.Words.{meant_words4};
 ghost use Rattle.write.specs.Records.{block};
+ghost use Rattle.tables.specs.Working.{lists};
 ghost use Rattle.write.specs.Filling.{NamesPart, BonesPart, ListsRoom, lists_stored, bones_stored, PartsPlaced};
 
 use crate::block::put_block;
@@ -19,6 +20,7 @@ use crate::starts::{Starts, fill};
 use crate::words::{put_halves, put_words, put_zeros};
 use blocks::places::Section;
 use format::{BONE_WORDS, Words4};
+use tables::working::Working;
 
 // How many there are of what, beside the bones.
 #[derive(Clone, Copy)]
@@ -80,29 +82,23 @@ pub(crate) fn fill_section(
     s: Sizes,
     bones: &[[u32; BONE_WORDS]],
     names: Section,
-    buckets: &[u32],
-    entries: &[u32],
-    inverse: &[u32],
-    local: &[u32],
-    parents: &[u16],
-    children: &[u16],
+    tables: &Working,
 )
-    requires { PartsPlaced (meant_starts at) s (section_of names) bones.now buckets.now entries.now inverse.now local.now
-        parents.now children.now (length d.old) }
+    requires { PartsPlaced (meant_starts at) s (section_of names) bones.now (lists tables.now) (length d.old) }
     ensures bytes { let lent = section_of names.entry in
         d.new ≡ sets d.old 0 (layout (named lent (map bone_of bones.now)) (meant_words4 free)) }
 {
     let n = bones.len();
     let words = format::MATRIX_WORDS * n;
     put_skeleton(d, at, free, n, s.buckets, s.children);
-    put_chains(d, at.buckets, at.entries, &buckets[..s.buckets], entries);
+    put_chains(d, at.buckets, at.entries, &tables.buckets[..s.buckets], tables.entries);
     fill_bones(d, at, s.names, bones, names);
     fill_lists(
         d,
         at,
-        &inverse[..words],
-        &local[..words],
-        &parents[..n],
-        &children[..s.children],
+        &tables.inverse[..words],
+        &tables.local[..words],
+        &tables.parents[..n],
+        &tables.children[..s.children],
     );
 }

@@ -11,49 +11,35 @@ mod filling; // all parts
 mod working; // the working tables
 mod outcome; // the tests in their order
 
-ghost use Rattle.std.specs.Prelude.{◌≡◌, ◌≤◌, length};
+ghost use Rattle.std.specs.Prelude.{length};
 ghost use Rattle.blocks.specs.Places.{section_of};
 ghost use Rattle.format.specs.Words.{meant_words4};
 ghost use Rattle.write.specs.Outcome.{outcome, Writes};
-ghost use Rattle.tables.specs.Working.{working, room_in, Zeroed};
+ghost use Rattle.tables.specs.Working.{lists, room_in, SameTables, Zeroed};
 
 use crate::outcome::attempt;
-use crate::working::clear_tables;
 use blocks::places::Section;
 use format::{Refusal, Words4};
+use tables::working::Working;
 
-// Writes the section of the first n bones of a table, whose names lie in the halves of a lent section, at the front of `out`, and gives its
-// length. Refuses 2, then 1 for the table of bones, 4, 1 for the working tables, 3, 5. On a refusal `out` is as it was; else only the
-// section's own bytes change. The working tables are zero after every call.
+// Writes the section of the first n bones of a table, whose names lie in the halves of a lent section, at the front of `out`, and gives
+// its length. Refuses 2, then 1 for the table of bones, 4, 1 for the working tables, 3, 5. On a refusal `out` is as it was; else only
+// the section's own bytes change. The working tables are zero after every call.
 pub fn write(
     bones: &[u32],
     n: usize,
     names: Section,
     free: Words4,
-    buckets: &mut [u32],
-    entries: &mut [u32],
-    inverse: &mut [u32],
-    local: &mut [u32],
-    parents: &mut [u16],
-    children: &mut [u16],
-    pending: &mut [u32],
+    tables: &mut Working,
     out: &mut [u8],
 ) -> Result<usize, Refusal>
-    ensures written { let x = working buckets.old entries.old inverse.old local.old
-        parents.old children.old pending.old in
-        Writes
-        (outcome (section_of names.entry) (room_in x) (length out.old) n bones.now
-        (meant_words4 free))
+    ensures written { Writes
+        (outcome (section_of names.entry) (room_in (lists tables.old)) (length out.old) n bones.now (meant_words4 free))
         result out.old out.new }
-    ensures tables { Zeroed
-        (working buckets.old entries.old inverse.old local.old
-        parents.old children.old pending.old)
-        (working buckets.new entries.new inverse.new local.new
-        parents.new children.new pending.new) }
+    ensures tables { Zeroed (lists tables.old) (lists tables.new) }
+    ensures same { SameTables tables.old tables.new }
 {
-    let r = attempt(
-        bones, n, names, free, buckets, entries, inverse, local, parents, children, pending, out,
-    );
-    clear_tables(buckets, entries, inverse, local, parents, children, pending);
-    r
+    let answer = attempt(bones, n, names, free, tables, out);
+    tables.clear();
+    answer
 }

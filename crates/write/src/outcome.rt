@@ -7,7 +7,7 @@ ghost use Rattle.blocks.specs.Places.{section_of};
 ghost use Rattle.format.specs.Words.{meant_words4};
 ghost use Rattle.write.specs.Filling.{Held};
 ghost use Rattle.write.specs.Outcome.{outcome, tested, laid_out, Writes};
-ghost use Rattle.tables.specs.Working.{working, room_in};
+ghost use Rattle.tables.specs.Working.{lists, room_in, SameTables};
 
 use crate::block::rows_of;
 use crate::filling::{Sizes, fill_section};
@@ -16,6 +16,7 @@ use crate::starts::{after, place};
 use crate::working::derive_tables;
 use blocks::places::Section;
 use derive_chains::buckets::{bucket_count, entry_count};
+use tables::working::Working;
 use format::{BONE_WORDS, Refusal, Words4};
 
 // Tests the first n bones of a table and their names: refusals 2, 1 for the table, 4. Gives the bytes that the names take.
@@ -37,16 +38,10 @@ fn lay_out(
     names: Section,
     free: Words4,
     s: Sizes,
-    buckets: &[u32],
-    entries: &[u32],
-    inverse: &[u32],
-    local: &[u32],
-    parents: &[u16],
-    children: &[u16],
+    tables: &Working,
     out: &mut [u8],
 ) -> Result<usize, Refusal>
-    requires { Held s (section_of names) (map bone_of bones.now) buckets.now entries.now inverse.now local.now parents.now
-        children.now }
+    requires { Held s (section_of names) (map bone_of bones.now) (lists tables.now) }
     ensures written { Writes
         (laid_out (section_of names.entry) (length out.old) (map bone_of bones.now) (meant_words4 free))
         result out.old out.new }
@@ -60,9 +55,7 @@ fn lay_out(
     if size > out.len() {
         return Err(Refusal::BufferTooShort);
     }
-    fill_section(
-        out, at, free, s, bones, names, buckets, entries, inverse, local, parents, children,
-    );
+    fill_section(out, at, free, s, bones, names, tables);
     Ok(size)
 }
 
@@ -72,33 +65,21 @@ pub(crate) fn attempt(
     n: usize,
     names: Section,
     free: Words4,
-    buckets: &mut [u32],
-    entries: &mut [u32],
-    inverse: &mut [u32],
-    local: &mut [u32],
-    parents: &mut [u16],
-    children: &mut [u16],
-    pending: &mut [u32],
+    tables: &mut Working,
     out: &mut [u8],
 ) -> Result<usize, Refusal>
-    ensures written { let x = working buckets.old entries.old inverse.old local.old
-        parents.old children.old pending.old in
-        Writes
-        (outcome (section_of names.entry) (room_in x) (length out.old) n bones.now
-        (meant_words4 free))
+    ensures written { Writes
+        (outcome (section_of names.entry) (room_in (lists tables.old)) (length out.old) n bones.now (meant_words4 free))
         result out.old out.new }
+    ensures same { SameTables tables.old tables.new }
 {
     let name_bytes = check_bones(bones, n, names)?;
-    let children_count = derive_tables(
-        bones, n, buckets, entries, inverse, local, parents, children, pending,
-    )?;
+    let children_count = derive_tables(bones, n, tables)?;
     let sizes = Sizes {
         buckets: bucket_count(n),
         children: children_count,
         names: name_bytes,
     };
     let rows = rows_of(bones, n);
-    lay_out(
-        rows, names, free, sizes, buckets, entries, inverse, local, parents, children, out,
-    )
+    lay_out(rows, names, free, sizes, tables, out)
 }
