@@ -9,7 +9,9 @@ ghost use Rattle.write.specs.Outcome.{outcome};
 ghost use Rattle.tables.specs.Working.{working, room_in, Zeroed};
 ghost use Rattle.rig_answers.specs.Told.{free_of, ReadTold, WriteTold};
 
+use blocks::places::Section;
 use format::Words4;
+use tables::working::Working;
 
 // The skeleton at a root address, read into tables as `read::read` says, which also has the order of the refusals: the rows read and
 // zeros behind them, zeros alone after none and after a refusal, and a pool of zeros after every call. `fields` are the kind word,
@@ -83,10 +85,20 @@ pub extern "C" fn rig_write<'a>(
         z: free[2],
         w: free[3],
     };
-    let r = write::write(
-        bones, n, sys, gfx, words, buckets, entries, inverse, local, parents, children, pending,
-        out,
-    );
-    *count = rig_answers::written_count(r);
-    rig_answers::written_status(r)
+    let names = Section {
+        system: sys,
+        graphics: gfx,
+    };
+    let mut tables = Working {
+        buckets,
+        entries,
+        inverse,
+        local,
+        parents,
+        children,
+        pending,
+    };
+    let answer = write::write(bones, n, names, words, &mut tables, out);
+    *count = rig_answers::written_count(answer);
+    rig_answers::written_status(answer)
 }

@@ -14,9 +14,8 @@ use Rattle.read.specs.Parts.{meant_part}
 use Rattle.format.specs.Tables.{part_length}
 use Rattle.read.specs.Reads.{meant_skeleton, meant_read, read_leaves, Reads}
 use Rattle.read.specs.declared.Skeleton.{Skeleton}
-use Rattle.write.specs.Outcome.{written_of, Writes}
+use Rattle.write.specs.Outcome.{Writes}
 use Rattle.tables.specs.Working.{Working}
-use Rattle.write.specs.declared.Written.{Written}
 use Rattle.format.specs.Refusal.{outcome}
 use Rattle.format.specs.declared.Refusal.{Refusal}
 use Rattle.verify.specs.Checks.{leaves_by, Checks}
@@ -57,8 +56,8 @@ read_told {r = r} k f n =
 -- ---- writing
 
 pub write-told :
-    {w : Res Bytes} {r : Written} {n k : ℕ} {out out' : List ℕ} → Writes w r out out' → k ≡ counted (written_of r) →
-    n ≡ status (written_of r) → WriteTold w n k out out'
+    {w : Res Bytes} {r : Result ℕ Refusal} {n k : ℕ} {out out' : List ℕ} → Writes w r out out' → k ≡ counted (outcome r) →
+    n ≡ status (outcome r) → WriteTold w n k out out'
 write-told a k n =
     record { answer = n ∙ ap status a.answer; count = k ∙ ap counted a.answer; buffer = a.buffer }
 

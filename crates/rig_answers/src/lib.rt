@@ -9,7 +9,6 @@ ghost use Rattle.format.specs.Result.{done, status};
 ghost use Rattle.format.specs.Tables.{part_length};
 ghost use Rattle.read.specs.Parts.{meant_part};
 ghost use Rattle.read.specs.Reads.{meant_skeleton, meant_read};
-ghost use Rattle.write.specs.Outcome.{written_of};
 ghost use Rattle.lookup.specs.Looked.{looked_of};
 ghost use Rattle.rig_answers.specs.Answer.{counted, read_status, given, number_if, present};
 ghost use Rattle.rig_answers.specs.Told.{skeleton_fields};
@@ -17,7 +16,6 @@ ghost use Rattle.rig_answers.specs.Told.{skeleton_fields};
 use format::Refusal;
 use lookup::Looked;
 use read::Skeleton;
-use write::Written;
 
 // The status of "none".
 pub const NOTHING: u32 = 100;
@@ -101,23 +99,20 @@ pub fn read_fields(r: Result<Option<Skeleton>, Refusal>) -> [usize; 20]
 
 // ---- writing
 
-pub fn written_status(r: Written) -> u32
-    ensures { result ≡ status (written_of r) }
+pub fn written_status(answer: Result<usize, Refusal>) -> u32
+    ensures { result ≡ status (outcome answer) }
 {
-    match r {
-        Written::Done(_) => 0,
-        Written::Refused(e) => u32::from(e),
+    match answer {
+        Ok(_) => 0,
+        Err(refusal) => u32::from(refusal),
     }
 }
 
 // How many bytes were written, 0 after a refusal.
-pub fn written_count(r: Written) -> usize
-    ensures { result ≡ counted (written_of r) }
+pub fn written_count(answer: Result<usize, Refusal>) -> usize
+    ensures { result ≡ counted (outcome answer) }
 {
-    match r {
-        Written::Done(n) => n,
-        Written::Refused(_) => 0,
-    }
+    answer.unwrap_or(0)
 }
 
 // ---- lookup of a tag

@@ -26,7 +26,7 @@ use Rattle.format.proofs.Results.{needed, gone}
 use Rattle.tables.specs.Front.{front_of}
 use Rattle.write.specs.Outcome.{outcome, write_leaves, Writes}
 use Rattle.tables.specs.Outcome.{size_of}
-use Rattle.write.specs.declared.Written.TheVariants.{Done}
+use Rattle.std.specs.Prelude.{Ok}
 
 -- ---- the check
 
@@ -87,7 +87,7 @@ written-fits lent room size bones free b e =
 
 module _ (lent : Section) (room : DeriveRoom) (n : ℕ) (t : List ℕ) (free : Words4) (out out' : List ℕ) (size : ℕ) where
   pub written_is :
-      Writes (outcome lent room (length out) n t free) (Done size) out out' →
+      Writes (outcome lent room (length out) n t free) (Ok size) out out' →
       WrittenIs lent room (length out) (bones_of n t) free (front_of size out')
   unfolding outcome
   written_is w = go (outcome lent room (length out) n t free) refl w.answer w.buffer

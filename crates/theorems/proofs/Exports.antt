@@ -34,7 +34,7 @@ use Rattle.read.specs.Lent as read
 use Rattle.read.specs.Lent.{read_room}
 use Rattle.read.specs.Reads.{answer_of}
 use Rattle.write.specs.Outcome.{outcome, Writes}
-use Rattle.write.specs.declared.Written.TheVariants.{Done}
+use Rattle.std.specs.Prelude.{Ok}
 use Rattle.joints.specs.Written.{table_written}
 use Rattle.verify.specs.Checks.{leaves_by}
 use Rattle.read_laws.specs.Bytes.{Bytes8, SectionBytes}
@@ -181,7 +181,7 @@ back bones n lent free x out out' size w f o c graphics g =
           );
     }
   where
-    writes : (v : Res Bytes) (bs : Bytes) → sure v ≡ done (Some bs) → WriteTold v 0 size out out' → Writes v (Done size) out out'
+    writes : (v : Res Bytes) (bs : Bytes) → sure v ≡ done (Some bs) → WriteTold v 0 size out out' → Writes v (Ok size) out out'
     writes (done s) bs e k = record { answer = ap done k.count; buffer = k.buffer }
     writes (refused m) bs e k = let z : ◌≡◌ {A = ℕ} 0 1 = cc in absurd (omega arith)
 

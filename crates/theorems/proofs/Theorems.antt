@@ -39,7 +39,7 @@ use Rattle.format.specs.Words.{meant_words4}
 use Rattle.write.specs.Outcome.{outcome, Writes}
 use Rattle.tables.specs.Working.{Working, room_in}
 use Rattle.format.specs.declared.Words4.{Words4}
-use Rattle.write.specs.declared.Written.TheVariants.{Done}
+use Rattle.std.specs.Prelude.{Ok}
 use Rattle.lookup.specs.Looked.{looked_of}
 use Rattle.lookup.specs.declared.Looked.{Looked}
 use Rattle.check_steps.proofs.Answers.{accepted, skeleton-is}
@@ -178,7 +178,7 @@ module _
 -- what was written reads back
 pub reads_back_lem :
     (bones : List ℕ) (n : ℕ) (lent : Section) (free : B.Words4) (x : Working) (out out' : List ℕ) (size : ℕ) →
-    Words32 bones → Fits4 free → Writes (outcome lent (room_in x) (length out) n bones free) (Done size) out out' →
+    Words32 bones → Fits4 free → Writes (outcome lent (room_in x) (length out) n bones free) (Ok size) out out' →
     (graphics : List ℕ) → ReadsBack lent (bones_of n bones) free (section (front_of size out') graphics)
 reads_back_lem bones n lent free x out out' size w f c graphics =
     let k = written_is lent (room_in x) n bones free out out' size c in
@@ -188,7 +188,7 @@ reads_back_lem bones n lent free x out out' size w f c graphics =
 back :
     (bones : List ℕ) (n : ℕ) (lent : Section) (free : Words4) (x : Working) (out out' : List ℕ) (size : ℕ) →
     Words32 bones → Fits4 (meant_words4 free) → Bytes8 out' →
-    Writes (outcome lent (room_in x) (length out) n bones (meant_words4 free)) (Done size) out out' →
+    Writes (outcome lent (room_in x) (length out) n bones (meant_words4 free)) (Ok size) out out' →
     (graphics : List ℕ) → Bytes8 graphics → WrittenBack lent bones n free (section (front_of size out') graphics)
 back bones n lent free x out out' size w f o c graphics g =
     written_back lent bones n free (section (front_of size out') graphics) (front_bytes size out' o, g)

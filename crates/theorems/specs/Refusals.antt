@@ -30,8 +30,7 @@ use Rattle.read.specs.Reads.{Reads, meant_read}
 use Rattle.lookup.specs.Looked.{looked_of}
 use Rattle.lookup.specs.declared.Looked.{Looked}
 use Rattle.verify.specs.Checks.{Checks}
-use Rattle.write.specs.Outcome.{outcome, written_of, Writes}
-use Rattle.write.specs.declared.Written.{Written}
+use Rattle.write.specs.Outcome.{outcome, Writes}
 use Rattle.joints.specs.Reading.{table_read, meant_joints, whether}
 use Rattle.joints.specs.declared.read.JointsRead.{JointsRead}
 use Rattle.joints.specs.Written.{table_written, meant_written, meant_record_written}
@@ -50,8 +49,8 @@ pub record Refusals : Type 0 where
       (n bones inverse local : ℕ) (r : Transformed) → transformed_of r ≡ matrices_result n bones inverse local →
       RefusesOnly deriving_refusals (transformed_of r)
   pub writing :
-      (lent : Section) (room : DeriveRoom) (n : ℕ) (bones : List ℕ) (free : Words4) (out out' : List ℕ) (r : Written) →
-      Writes (outcome lent room (length out) n bones free) r out out' → RefusesOnly writing_refusals (written_of r)
+      (lent : Section) (room : DeriveRoom) (n : ℕ) (bones : List ℕ) (free : Words4) (out out' : List ℕ) (r : Result ℕ Refusal) →
+      Writes (outcome lent room (length out) n bones free) r out out' → RefusesOnly writing_refusals (refusal.outcome r)
   pub reading :
       (sec : Section) (root : ℕ) (t₀ t : read.Lent) (r : Result (Option Skeleton) Refusal) → Reads (read_skeleton sec (read_room t₀) root no_rows) r t₀ t →
       RefusesOnly reading_refusals (meant_read r)

@@ -23,7 +23,7 @@ use Rattle.read.specs.declared.Skeleton.{Skeleton}
 use Rattle.write.specs.Outcome.{outcome, Writes}
 use Rattle.tables.specs.Working.{Working, room_in}
 use Rattle.format.specs.declared.Words4.{Words4}
-use Rattle.write.specs.declared.Written.TheVariants.{Done}
+use Rattle.std.specs.Prelude.{Ok}
 use Rattle.lookup.specs.Looked.{looked_of}
 use Rattle.lookup.specs.declared.Looked.{Looked}
 use Rattle.read.specs.Parts.{part_rows}
@@ -84,5 +84,5 @@ pub record Theorems : Type 0 where
   pub back :
       (bones : List ℕ) (n : ℕ) (lent : Section) (free : Words4) (x : Working) (out out' : List ℕ) (size : ℕ) →
       Words32 bones → Fits4 (meant_words4 free) → Bytes8 out' →
-      Writes (outcome lent (room_in x) (length out) n bones (meant_words4 free)) (Done size) out out' →
+      Writes (outcome lent (room_in x) (length out) n bones (meant_words4 free)) (Ok size) out out' →
       (graphics : List ℕ) → Bytes8 graphics → WrittenBack lent bones n free (section (front_of size out') graphics)
