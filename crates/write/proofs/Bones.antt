@@ -7,7 +7,7 @@ use Prim.Native.Nat.{ℕ, zero, suc, ◌+◌, ◌-◌, ◌*◌, ◌^◌, ◌≤�
 use native.Mathlib.Nat.{add_assoc}
 use native.Mathlib.Numerals.{add-one}
 use native.Mathlib.Omega.{arith}
-use lib.ListN.{length, get_or, take, drop, length-drop, length-map, drop_of_length-le}
+use lib.ListN.{length, get_or, take, drop, length-map, drop_of_length-le}
 use lib.Seq.{sets, drop-cons, get_or-take, take-take}
 use Rattle.std.proofs.lemmas.List.{drop-take}
 use Rattle.format.specs.Field.{word_bytes, ◌⊳◌, lay}

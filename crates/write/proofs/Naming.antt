@@ -7,15 +7,15 @@ use Rattle.std.specs.Prelude.{Option, None, Some, Result, Ok, Err}
 use Rattle.std.specs.Borrow.{Bor}
 use mathlib.Core.List.{List, [], ◌∷◌, ◌++◌, map, flat_map}
 use Prim.Native.Nat.{ℕ, ◌+◌, ◌-◌, ◌*◌, ◌≤◌, ◌<◌}
-use native.Mathlib.Nat.{sub-zero, zero-add}
+use native.Mathlib.Nat.{zero-add}
 use native.Mathlib.Numerals.{add-one}
 use native.Mathlib.Omega.{arith}
 use borrow.Author.Tests.{le-leb, lt-leb, leb-true}
 use lib.Dec.{leb, eqb}
 use lib.ListN.{length, get_or, take, drop, replicate, length-append, length-drop, drop_of_length-le, get_or-replicate, get_or-append}
-use lib.Seq.{sets, drop-cons, length-take-le, get_or-append-add, get_or-take}
+use lib.Seq.{drop-cons, length-take-le, get_or-append-add, get_or-take}
 use Rattle.format.specs.Result.{Res, refused, done, ◌>>=◌, need}
-use Rattle.format.specs.Refusal.{number, outcome_by}
+use Rattle.format.specs.Refusal.{outcome_by}
 use Rattle.format.specs.declared.Refusal.{Refusal}
 use Rattle.format.specs.Section.{Section, Spot, Place, spot, cursor, part, or_none, name_bytes}
 use Rattle.format.specs.Bone.{map_name}
@@ -29,7 +29,7 @@ use Rattle.rows.specs.Value.{our_place}
 use Rattle.format.specs.declared.Place as our
 use Rattle.write.specs.Records.{takes, takes_all, ShortName}
 use Rattle.write.specs.Names.{name_in, names_result, StoredTo}
-use Rattle.fields.proofs.RunLaws.{length_part as length_cut, part-word, Left, left-none, left-all}
+use Rattle.fields.proofs.RunLaws.{Left, left-none, left-all}
 use Rattle.write.proofs.Runs.{just_stored, left-past, sets_whole}
 use Rattle.write.proofs.Bones.{name-none, name-some, rows-next}
 

@@ -4,15 +4,14 @@
 use mathlib.Core.Path.{◌≡◌, refl, sym, ap, ◌∙◌}
 use mathlib.Core.List.{List, [], ◌∷◌, ◌++◌, append-nil, append_assoc}
 use Prim.Native.Nat.{ℕ, suc, ◌+◌, ◌-◌, ◌≤◌, ◌<◌}
-use native.Mathlib.Nat.{add-zero, sub-zero}
 use native.Mathlib.Omega.{arith}
 use lib.ListN.{length, take, drop, set, replicate, length-append, length-drop, take-append-drop, drop_of_length-le}
 use lib.Seq.{sets, length-sets, set-set, set_comm, take-take, length-take-le, drop-drop}
 use borrow.Rule.Slice.PartMut.{put_mid}
 use Rattle.std.proofs.lemmas.List.Edits.{sets-eq}
 use Rattle.format.specs.Layout.{fill, pad16}
-use Rattle.fields.proofs.Stores.{sets-append, part-sets-same}
-use Rattle.fields.proofs.RunLaws.{Left, left-none, left-all, left-more, length_part}
+use Rattle.fields.proofs.Stores.{sets-append}
+use Rattle.fields.proofs.RunLaws.{Left}
 use Rattle.write.specs.Names.{StoredTo}
 
 -- ---- stores that do not meet

@@ -1,12 +1,12 @@
 -- Names as the rows and the lent halves give them: what the writer stores, and what it answers of them. Definitions only.
-use Rattle.std.specs.Prelude.{◌≡◌, ℕ, ◌+◌, ◌*◌, ◌≤◌, List, ◌++◌, length, replicate}
+use Rattle.std.specs.Prelude.{◌≡◌, ℕ, ◌+◌, ◌*◌, ◌≤◌, List, ◌++◌, length}
 use Rattle.std.proofs.lemmas.List.Edits.{sets}
-use Rattle.format.specs.Result.{Res, refused, done, need, ◌>>=◌}
+use Rattle.format.specs.Result.{Res, done, need, ◌>>=◌}
 use Rattle.format.specs.Section.{Section, Place, name_bytes}
 use Rattle.format.specs.Bone.{Bone, map_name}
-use Rattle.format.specs.Rows.{bone_of, bones_of}
-use Rattle.format.specs.Layout.{Bytes, ended_name, all_names}
-use Rattle.format.specs.Write.{good_names, named}
+use Rattle.format.specs.Rows.{bone_of}
+use Rattle.format.specs.Layout.{Bytes, ended_name}
+use Rattle.format.specs.Write.{good_names}
 use Rattle.write.specs.Records.{takes_all}
 
 -- the name of a row, ended by a zero; none where there is no name

@@ -64,7 +64,14 @@ fn fill_bones(d: &mut [u8], at: Starts, size: usize, bones: &[[u32; BONE_WORDS]]
 }
 
 // Stores matrices, parents and child entries.
-fn fill_lists(d: &mut [u8], at: Starts, inverse: &[u32], local: &[u32], parents: &[u16], children: &[u16])
+fn fill_lists(
+    d: &mut [u8],
+    at: Starts,
+    inverse: &[u32],
+    local: &[u32],
+    parents: &[u16],
+    children: &[u16],
+)
     requires { ListsRoom (meant_starts at) inverse.now local.now parents.now children.now (length d.old) }
     ensures bytes { d.new ≡ lists_stored (meant_starts at) inverse.now local.now parents.now children.now d.old }
 {
@@ -91,7 +98,13 @@ pub(crate) fn fill_section(
     let n = bones.len();
     let words = format::MATRIX_WORDS * n;
     put_skeleton(d, at, free, n, s.buckets, s.children);
-    put_chains(d, at.buckets, at.entries, &tables.buckets[..s.buckets], tables.entries);
+    put_chains(
+        d,
+        at.buckets,
+        at.entries,
+        &tables.buckets[..s.buckets],
+        tables.entries,
+    );
     fill_bones(d, at, s.names, bones, names);
     fill_lists(
         d,

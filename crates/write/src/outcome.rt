@@ -16,8 +16,8 @@ use crate::starts::{after, place};
 use crate::working::derive_tables;
 use blocks::places::Section;
 use derive_chains::buckets::{bucket_count, entry_count};
-use tables::working::Working;
 use format::{BONE_WORDS, Refusal, Words4};
+use tables::working::Working;
 
 // Tests the first n bones of a table and their names: refusals 2, 1 for the table, 4. Gives the bytes that the names take.
 fn check_bones(bones: &[u32], n: usize, names: Section) -> Result<usize, Refusal>

@@ -1,7 +1,6 @@
 -- `write::filling::fill_section` meets its contract. Assumes nothing.
 use mathlib.Core.Path.{◌∙◌}
 use Rattle.write.proofs.Stages.{skeleton_asks, chains_ask, bones_ask, lists_ask, section_filled}
-use Rattle.write.proofs.Stages.{heads_stand, inverse_stands, local_stands, parents_stand}
 use Rattle.write.proofs.filling.fill_section.Goals as goal
 
 pub put_skeleton-requires : goal.put_skeleton-requires

@@ -1,6 +1,5 @@
 -- `write::names::good_name` meets its contract. Assumes nothing.
-use Rattle.blocks.specs.Places.{section_of}
-use Rattle.write.proofs.Naming.{good_none, good_long, good-refused, good-here}
+use Rattle.write.proofs.Naming.{good_none, good_long, good-here}
 use Rattle.write.proofs.names.good_name.Goals as goal
 
 pub returns-then-name-eq0 : goal.returns-then-name-eq0

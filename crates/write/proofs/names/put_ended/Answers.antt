@@ -1,6 +1,5 @@
 -- `write::names::put_ended` meets its contract. Assumes nothing.
 use mathlib.Core.Path.{refl}
-use native.Mathlib.Omega.{arith}
 use Rattle.write.proofs.Runs.{ended_stored}
 use Rattle.write.proofs.names.put_ended.Goals as goal
 
