@@ -1,18 +1,29 @@
--- Bytes stored one behind the other: what is left to store gives the whole (`Left` of `fields`). In order: stores that do not meet, and
+-- Bytes stored one behind the other: what is left to store gives the whole (`Left` of `fields`). In order: a run that has room; stores that do not meet, and
 -- those that overlap; a part written whole; bytes stored up to a limit; what is left; a part with its fill.
 -- Assumes nothing.
 use mathlib.Core.Path.{◌≡◌, refl, sym, ap, ◌∙◌}
 use mathlib.Core.List.{List, [], ◌∷◌, ◌++◌, append-nil, append_assoc}
-use Prim.Native.Nat.{ℕ, suc, ◌+◌, ◌-◌, ◌≤◌, ◌<◌}
+use Prim.Native.Nat.{ℕ, suc, ◌+◌, ◌-◌, ◌*◌, ◌≤◌, ◌<◌}
 use native.Mathlib.Omega.{arith}
 use lib.ListN.{length, take, drop, set, replicate, length-append, length-drop, take-append-drop, drop_of_length-le}
 use lib.Seq.{sets, length-sets, set-set, set_comm, take-take, length-take-le, drop-drop}
 use borrow.Rule.Slice.PartMut.{put_mid}
 use Rattle.std.proofs.lemmas.List.Edits.{sets-eq}
+use borrow.Author.Tests.{le-leb}
+use Rattle.format.specs.Field.{which_list, word_bytes}
+use Rattle.fields.specs.Runs.{stored}
 use Rattle.format.specs.Layout.{fill, pad16}
 use Rattle.fields.proofs.Stores.{sets-append}
 use Rattle.fields.proofs.RunLaws.{Left}
 use Rattle.write.specs.Names.{StoredTo}
+
+-- ---- a run of numbers that has room
+
+pub run-stands :
+    {A : Type 0} (numbers : List A → List ℕ) (k : ℕ) (w : List A) (d : List ℕ) (at : ℕ) → at + k * length w ≤ length d
+    → stored numbers k w d at ≡ sets d at (word_bytes k (numbers w))
+unfolding which_list
+run-stands numbers k w d at h = rw (le-leb (at + k * length w) (length d) h) refl
 
 -- ---- stores that do not meet
 

@@ -7,7 +7,7 @@ ghost use Rattle.format.specs.Rows.{bone_of, bones_of};
 ghost use Rattle.write.specs.Records.{ShortName, takes, bone_record, records, block, BonesRoom, BlockRoom};
 
 use crate::starts::pointer;
-use crate::words::put_words;
+use crate::words::put_run;
 use format::BONE_WORDS;
 use rows::name_at;
 
@@ -68,7 +68,7 @@ fn put_bone(d: &mut [u8], at: usize, row: &[u32; BONE_WORDS], name: u32)
     requires { at + 80 ≤ length d.old }
     ensures bytes { d.new ≡ sets d.old at (lay (bone_items (bone_of row.now) name)) }
 {
-    put_words(d, at, &bone_record(row, name));
+    put_run(d, at, &bone_record(row, name));
 }
 
 // Stores the records of some rows, their names lying from `names` on.
@@ -94,6 +94,6 @@ pub(crate) fn put_block(d: &mut [u8], at: usize, names: usize, bones: &[[u32; BO
     if bones.is_empty() {
         return;
     }
-    put_words(d, at, &[bones.len() as u32, 0, 0, 0]);
+    put_run(d, at, &[bones.len() as u32, 0, 0, 0]);
     put_bones(d, at + format::BLOCK_HEADER_SIZE, names, bones);
 }

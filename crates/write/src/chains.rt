@@ -8,7 +8,7 @@ ghost use Rattle.format.specs.Section.{window};
 ghost use Rattle.write.specs.Linked.{entry_items, linked, ChainRoom, ChainsRoom, ChainsLaid};
 
 use crate::starts::{fill, pointer};
-use crate::words::{put_words, put_zeros};
+use crate::words::{put_run, put_zeros};
 
 // Stores an entry in front of one that lies right behind it, or of none where `link` is 0.
 fn put_entry(d: &mut [u8], at: usize, tag: u32, position: u32, link: u32)
@@ -16,7 +16,7 @@ fn put_entry(d: &mut [u8], at: usize, tag: u32, position: u32, link: u32)
     ensures bytes { d.new ≡ sets d.old at (lay (entry_items (base + (at + 16)) tag position link)) }
 {
     let next = pointer(at + format::ENTRY_SIZE, link as usize);
-    put_words(d, at, &[tag, position, next, 0]);
+    put_run(d, at, &[tag, position, next, 0]);
 }
 
 // Stores the chain from a link on, and gives where it ends.
@@ -48,7 +48,7 @@ fn put_pointer(d: &mut [u8], at: usize, head: usize, link: u32)
     requires { (at + 8 ≤ length d.old) × (head ≤ window) }
     ensures bytes { d.new ≡ sets d.old at (bytes 8 (Layout.pointer (base + head) link)) }
 {
-    put_words(d, at, &[pointer(head, link as usize), 0]);
+    put_run(d, at, &[pointer(head, link as usize), 0]);
 }
 
 // Stores the pointers of some buckets from `at` on, their fill behind them, and the entries from `to` on.

@@ -17,7 +17,7 @@ use crate::chains::put_chains;
 use crate::names::put_names;
 use crate::skeleton::put_skeleton;
 use crate::starts::{Starts, fill};
-use crate::words::{put_halves, put_words, put_zeros};
+use crate::words::{put_run, put_zeros};
 use blocks::places::Section;
 use format::{BONE_WORDS, Words4};
 use tables::working::Working;
@@ -37,7 +37,7 @@ fn put_list(d: &mut [u8], at: usize, h: &[u16])
     requires { after at (2 * length h.now) ≤ length d.old }
     ensures bytes { d.new ≡ sets d.old at (pad16 (word_bytes 2 h.now)) }
 {
-    put_halves(d, at, h);
+    put_run(d, at, h);
     let n = 2 * h.len();
     put_zeros(d, at + n, fill(n));
 }
@@ -75,8 +75,8 @@ fn fill_lists(
     requires { ListsRoom (meant_starts at) inverse.now local.now parents.now children.now (length d.old) }
     ensures bytes { d.new ≡ lists_stored (meant_starts at) inverse.now local.now parents.now children.now d.old }
 {
-    put_words(d, at.inverse, inverse);
-    put_words(d, at.local, local);
+    put_run(d, at.inverse, inverse);
+    put_run(d, at.local, local);
     put_list(d, at.parents, parents);
     put_list(d, at.children, children);
 }

@@ -7,7 +7,7 @@ ghost use Rattle.write.specs.Placing.{SkeletonCounts, meant_starts, skeleton_wor
 ghost use Rattle.format.specs.Words.{meant_words4};
 
 use crate::starts::{Starts, pointer};
-use crate::words::put_words;
+use crate::words::put_run;
 use format::Words4;
 
 // Two 16-bit numbers in one word, the first in the lower half.
@@ -68,5 +68,5 @@ pub(crate) fn put_skeleton(d: &mut [u8], at: Starts, free: Words4, n: usize, c: 
     requires { SkeletonCounts (meant_starts at) n c k × (112 ≤ length d.old) }
     ensures bytes { d.new ≡ sets d.old 0 (lay (skeleton_items (meant_starts at) (meant_words4 free) n c k)) }
 {
-    put_words(d, 0, &skeleton_words(at, free, n, c, k));
+    put_run(d, 0, &skeleton_words(at, free, n, c, k));
 }

@@ -1,28 +1,20 @@
-// Words, 16-bit numbers and bytes stored one behind the other in a lent buffer. The callers know that there is room.
-ghost use Rattle.std.specs.Prelude.{◌≡◌, ◌+◌, ◌*◌, ◌≤◌, length, take, drop, replicate};
+// Numbers and bytes stored one behind the other in a lent buffer. The callers know that there is room.
+ghost use Rattle.std.specs.Prelude.{◌≡◌, ◌+◌, ◌*◌, ◌≤◌, length, take, replicate};
 ghost use Rattle.std.proofs.lemmas.List.Edits.{sets};
 ghost use Rattle.format.specs.Field.{word_bytes};
 ghost use Rattle.write.specs.Names.{StoredTo};
 
-use fields::runs;
+use fields::{Pod, runs};
 
 // Names are mostly shorter: so many bytes are tested or stored at once.
 pub(crate) const CHUNK: usize = 32;
 
-// Words, four bytes for each.
-pub(crate) fn put_words(d: &mut [u8], at: usize, w: &[u32])
-    requires { at + 4 * length w.now ≤ length d.old }
-    ensures bytes { d.new ≡ sets d.old at (word_bytes 4 w.now) }
+// Numbers, one behind the other.
+pub(crate) fn put_run<T: Pod>(d: &mut [u8], at: usize, w: &[T])
+    requires { at + T.SIZE * length w.now ≤ length d.old }
+    ensures bytes { d.new ≡ sets d.old at (word_bytes T.SIZE (T.numbers w.now)) }
 {
     let _ = runs::put(d, at, w);
-}
-
-// 16-bit numbers, two bytes for each.
-pub(crate) fn put_halves(d: &mut [u8], at: usize, h: &[u16])
-    requires { at + 2 * length h.now ≤ length d.old }
-    ensures bytes { d.new ≡ sets d.old at (word_bytes 2 h.now) }
-{
-    let _ = runs::put(d, at, h);
 }
 
 // The first k bytes of s at least: the buffer may change up to its end. Where there are 32 on both sides, 32 are stored, whatever k is:

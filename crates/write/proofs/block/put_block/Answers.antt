@@ -11,19 +11,19 @@ pub returns-then-is_empty : goal.returns-then-is_empty
 returns-then-is_empty c =
     record { bytes = block_none _ _ _ _ (eqb-true (length c.args.bones.now) 0 (sym c.is_empty.ensures ∙ c.if-is_empty.true)) }
 
-pub put_words-requires : goal.put_words-requires
-put_words-requires c =
+pub put_run-requires : goal.put_run-requires
+put_run-requires c =
     let some = eqb-false (length c.args.bones.now) 0 (sym c.is_empty.ensures ∙ c.if-is_empty.false) in
     omega (arith, c.requires.room, block_size_lem (length c.args.bones.now) some)
 
 pub put_bones-requires : goal.put_bones-requires
 put_bones-requires c =
-    block_room (eqb-false (length c.args.bones.now) 0 (sym c.is_empty.ensures ∙ c.if-is_empty.false)) c.put_words.auto.d c.requires
+    block_room (eqb-false (length c.args.bones.now) 0 (sym c.is_empty.ensures ∙ c.if-is_empty.false)) c.put_run.auto.d c.requires
 
 pub returns : goal.returns
 returns c = record {
   bytes =
       block-some c.args.d.now c.args.at _ c.args.bones.now
-      (eqb-false (length c.args.bones.now) 0 (sym c.is_empty.ensures ∙ c.if-is_empty.false)) c.put_words.ensures.bytes
+      (eqb-false (length c.args.bones.now) 0 (sym c.is_empty.ensures ∙ c.if-is_empty.false)) c.put_run.ensures.bytes
       c.put_bones.ensures.bytes;
 }

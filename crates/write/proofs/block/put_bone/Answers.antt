@@ -7,4 +7,4 @@ use Rattle.write.proofs.block.put_bone.Goals as goal
 pub returns : goal.returns
 returns c =
     let h : c.args.name < 2 ^ 32 = omega arith in
-    record { bytes = stored-bone _ _ _ _ h c.bone_record.ensures.answer c.put_words.ensures.bytes }
+    record { bytes = stored-bone _ _ _ _ h c.bone_record.ensures.answer c.put_run.ensures.bytes }

@@ -7,5 +7,5 @@ returns c =
     record {
       bytes =
           stored-entry c.args.d.now c.args.at c.args.tag c.args.position c.args.link c.requires.1
-          c.pointer-next.ensures.answer c.put_words.ensures.bytes;
+          c.pointer-next.ensures.answer c.put_run.ensures.bytes;
     }

@@ -7,5 +7,5 @@ returns c =
     record {
       bytes =
           stored-pointer c.args.d.now c.args.at c.args.head c.args.link c.requires.1
-          c.pointer.ensures.answer c.put_words.ensures.bytes;
+          c.pointer.ensures.answer c.put_run.ensures.bytes;
     }

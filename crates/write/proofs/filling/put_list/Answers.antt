@@ -7,6 +7,6 @@ pub returns : goal.returns
 returns c =
     record {
       bytes =
-          padded_by c.args.d.now c.args.at _ (length-word_bytes 2 c.args.h.now) c.fill.ensures.answer c.put_halves.ensures.bytes
+          padded_by c.args.d.now c.args.at _ (length-word_bytes 2 c.args.h.now) c.fill.ensures.answer c.put_run.ensures.bytes
           c.put_zeros.ensures.bytes;
     }

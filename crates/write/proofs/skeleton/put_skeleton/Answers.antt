@@ -7,5 +7,5 @@ returns c =
     record {
       bytes =
           stored-skeleton c.args.d.now _ _ c.args.n c.args.c c.args.k c.requires.0 c.skeleton_words.ensures.answer
-          c.put_words.ensures.bytes;
+          c.put_run.ensures.bytes;
     }
