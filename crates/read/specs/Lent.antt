@@ -3,7 +3,9 @@
 use Rattle.std.specs.Prelude.{ℕ, ◌/◌, List, length}
 use Rattle.format.specs.Rows.{laid, cleared, bone_width, TableWords}
 use Rattle.format.specs.Tables.{Room}
+use Rattle.tables.specs.Working.{SameTable}
 use Rattle.read_chains.specs.Lent.{entry_room}
+use Rattle.read.specs.declared.Tables as declared
 
 pub record Lent : Type 0 where
   pub bones : List ℕ
@@ -18,6 +20,22 @@ pub record Lent : Type 0 where
 abbrev pub lent : (bones buckets entries inverse local parents children pool : List ℕ) → Lent
 lent o b e i l p c q =
     record { bones = o; buckets = b; entries = e; inverse = i; local = l; parents = p; children = c; pool = q }
+
+-- the words of the tables that are lent
+abbrev pub lists : declared.Tables → Lent
+lists t =
+    lent t.bones.now t.buckets.now t.entries.now t.inverse.now t.local.now t.parents.now t.children.now t.pool.now
+
+-- the same tables are lent, each as long as it was
+pub record SameTables (v w : declared.Tables) : Type 0 where
+  pub bones : SameTable v.bones w.bones
+  pub buckets : SameTable v.buckets w.buckets
+  pub entries : SameTable v.entries w.entries
+  pub inverse : SameTable v.inverse w.inverse
+  pub local : SameTable v.local w.local
+  pub parents : SameTable v.parents w.parents
+  pub children : SameTable v.children w.children
+  pub pool : SameTable v.pool w.pool
 
 -- how many rows each has: a bone has 21 words, a matrix sixteen, a row of the pool four
 abbrev pub read_room : Lent → Room

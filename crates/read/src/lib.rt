@@ -4,11 +4,12 @@
 ghost use Rattle.std.specs.Prelude.{◌≡◌};
 ghost use Rattle.format.specs.Tables.{no_rows};
 ghost use Rattle.format.specs.Read.{read_skeleton};
-ghost use Rattle.blocks.specs.Places.{section};
-ghost use Rattle.read.specs.Lent.{lent, cleared_all, read_room};
+ghost use Rattle.blocks.specs.Places.{section_of};
+ghost use Rattle.read.specs.Lent.{lists, cleared_all, read_room, SameTables};
 ghost use Rattle.read.specs.Reads.{Fills, Reads};
 
 use blocks::kinds::Kind;
+use blocks::places::Section;
 use blocks::pool;
 use blocks::pool::Stored;
 use format::{Refusal, Words4};
@@ -36,80 +37,79 @@ pub struct Skeleton {
     pub children: Option<usize>,
 }
 
-// Zeros in every table.
-pub fn clear_all(
-    bones: &mut [u32],
-    buckets: &mut [u32],
-    entries: &mut [u32],
-    inverse: &mut [u32],
-    local: &mut [u32],
-    parents: &mut [u16],
-    children: &mut [u16],
-    pool: &mut [u64],
-)
-    ensures { lent bones.new buckets.new entries.new inverse.new
-        local.new parents.new children.new pool.new
-        ≡ cleared_all (lent bones.old buckets.old entries.old inverse.old
-        local.old parents.old children.old pool.old) }
-{
-    tables::clear(bones);
-    tables::clear(buckets);
-    tables::clear(entries);
-    tables::clear(inverse);
-    tables::clear(local);
-    tables::clear(parents);
-    tables::clear(children);
-    tables::clear(pool);
+// The tables that a reading is lent, and the pool.
+#[derive(Drop)]
+pub struct Tables<'a> {
+    pub bones: &'a mut [u32],
+    pub buckets: &'a mut [u32],
+    pub entries: &'a mut [u32],
+    pub inverse: &'a mut [u32],
+    pub local: &'a mut [u32],
+    pub parents: &'a mut [u16],
+    pub children: &'a mut [u16],
+    pub pool: &'a mut [u64],
+}
+
+impl Tables<'_> {
+    // Zeros in every table.
+    pub fn clear(&mut self)
+        ensures tables { lists self.new ≡ cleared_all (lists self.old) }
+        ensures same { SameTables self.old self.new }
+    {
+        self.bones.fill(0);
+        self.buckets.fill(0);
+        self.entries.fill(0);
+        self.inverse.fill(0);
+        self.local.fill(0);
+        self.parents.fill(0);
+        self.children.fill(0);
+        self.pool.fill(0);
+    }
 }
 
 // The skeleton at an address, read into tables that are all zero. Of a refusal nothing is said of the tables.
-fn fill<'a>(
-    sys: &'a [u8],
-    gfx: &'a [u8],
-    root: u64,
-    bones: &mut [u32],
-    buckets: &mut [u32],
-    entries: &mut [u32],
-    inverse: &mut [u32],
-    local: &mut [u32],
-    parents: &mut [u16],
-    children: &mut [u16],
-    pool: &mut [u64],
-) -> Result<Skeleton, Refusal>
-    ensures { Fills (section sys.now gfx.now) root result
-        (lent bones.old buckets.old entries.old inverse.old
-        local.old parents.old children.old pool.old)
-        (lent bones.new buckets.new entries.new inverse.new
-        local.new parents.new children.new pool.new) }
+fn fill(section: Section, root: u64, tables: &mut Tables) -> Result<Skeleton, Refusal>
+    ensures filled { Fills (section_of section.entry) root result (lists tables.old) (lists tables.new) }
+    ensures same { SameTables tables.old tables.new }
 {
+    let sys = section.system;
+    let gfx = section.graphics;
     let h = match header::header_at(sys, gfx, root) {
         Headed::At(h) => h,
         Headed::Refused(r) => return Err(r),
     };
-    let (buckets_read, bones_read) = parts::read_rows(sys, gfx, h, bones, buckets, entries, pool)?;
-    let (inverse_read, local_read) = parts::read_matrices(
+    let (buckets, bones) = parts::read_rows(
+        sys,
+        gfx,
+        h,
+        tables.bones,
+        tables.buckets,
+        tables.entries,
+        tables.pool,
+    )?;
+    let (inverse, local) = parts::read_matrices(
         sys,
         gfx,
         h.inverse_at,
         h.local_at,
         h.bone_count,
-        inverse,
-        local,
-        pool,
+        tables.inverse,
+        tables.local,
+        tables.pool,
     )?;
-    let (parents_read, children_read) = parts::read_indices(
+    let (parents, children) = parts::read_indices(
         sys,
         gfx,
         h.parents_at,
         h.bone_count,
         h.children_at,
         h.child_count,
-        parents,
-        children,
-        pool,
+        tables.parents,
+        tables.children,
+        tables.pool,
     )?;
-    parts::keep(bones, bones_read, local, local_read);
-    if let Stored::Full = pool::put(pool, root, Kind::Skeleton, 0, 1) {
+    parts::keep(tables.bones, bones, tables.local, local);
+    if let Stored::Full = pool::put(tables.pool, root, Kind::Skeleton, 0, 1) {
         return Err(Refusal::TableTooShort);
     }
     Ok(Skeleton {
@@ -118,59 +118,37 @@ fn fill<'a>(
         bucket_count: h.bucket_count,
         bone_count: h.bone_count,
         child_count: h.child_count,
-        buckets: buckets_read,
-        bones: bones_read,
-        inverse: inverse_read,
-        local: local_read,
-        parents: parents_read,
-        children: children_read,
+        buckets,
+        bones,
+        inverse,
+        local,
+        parents,
+        children,
     })
 }
 
-// Reads the skeleton at a root address of a section, the system and the graphics bytes, with an empty pool. Then the tables hold
+// Reads the skeleton at a root address of a section, with an empty pool. Then the tables hold
 // the rows read and zeros behind them: bones 21 words a row, buckets one, entries three (tag, position, link), matrices sixteen,
 // parents and children one. Root 0 gives none. Refusals, the first in reading order: 10 and 11 for the 98 bytes of the record,
 // then those of buckets and chains, bones and names (13 for a bones pointer from 1 to 15), inverse, local, parents, children (12,
 // 10 and 11 for an address, 1 where a table has no row left), and 1 where the pool has no row for the skeleton. After none and
 // after a refusal every table is zero; the pool is zero after every call.
-pub fn read<'a>(
-    sys: &'a [u8],
-    gfx: &'a [u8],
-    root: u64,
-    bones: &mut [u32],
-    buckets: &mut [u32],
-    entries: &mut [u32],
-    inverse: &mut [u32],
-    local: &mut [u32],
-    parents: &mut [u16],
-    children: &mut [u16],
-    pool: &mut [u64],
-) -> Result<Option<Skeleton>, Refusal>
-    ensures tables { Reads (read_skeleton (section sys.now gfx.now)
-        (read_room (lent bones.old buckets.old entries.old inverse.old
-        local.old parents.old children.old pool.old)) root no_rows) result
-        (lent bones.old buckets.old entries.old inverse.old
-        local.old parents.old children.old pool.old)
-        (lent bones.new buckets.new entries.new inverse.new
-        local.new parents.new children.new pool.new) }
+pub fn read(section: Section, root: u64, tables: &mut Tables) -> Result<Option<Skeleton>, Refusal>
+    ensures tables { Reads (read_skeleton (section_of section.entry) (read_room (lists tables.old)) root no_rows) result
+        (lists tables.old) (lists tables.new) }
+    ensures same { SameTables tables.old tables.new }
 {
-    clear_all(
-        bones, buckets, entries, inverse, local, parents, children, pool,
-    );
+    tables.clear();
     if root == 0 {
         return Ok(None);
     }
-    match fill(
-        sys, gfx, root, bones, buckets, entries, inverse, local, parents, children, pool,
-    ) {
+    match fill(section, root, tables) {
         Ok(s) => {
-            tables::clear(pool);
+            tables.pool.fill(0);
             Ok(Some(s))
         }
         Err(r) => {
-            clear_all(
-                bones, buckets, entries, inverse, local, parents, children, pool,
-            );
+            tables.clear();
             Err(r)
         }
     }

@@ -1,6 +1,7 @@
 // The parts of a skeleton, each read into its own tables (docs/FORMAT.md, "Reading and writing a skeleton"): buckets with chains,
 // bones with names, the two lists of matrices, parents and children. These are the steps of one reading: every table is zero
 // before it, and of a refusal nothing is said of the tables.
+ghost use Rattle.std.specs.Prelude.{◌≡◌};
 ghost use Rattle.blocks.specs.Places.{section};
 ghost use Rattle.format.specs.Tables.{inverse_table, parents_table};
 ghost use Rattle.read_lists.specs.Lists.{matrix_table, index_table};
@@ -195,9 +196,11 @@ pub fn read_indices(
     Ok((first, second))
 }
 
-// The kept words of the bones, where bones and local matrices stand.
-pub fn keep(bones: &mut [u32], rows: Option<usize>, local: &[u32], words: Option<usize>)
-    ensures table { KeepsPart rows words local.now bones.old bones.new }
+// The kept words of the bones, where bones and local matrices stand. The matrices are lent by `&mut`, since they lie beside the bones in one
+// struct, and stay.
+pub fn keep(bones: &mut [u32], rows: Option<usize>, local: &mut [u32], words: Option<usize>)
+    ensures bones { KeepsPart rows words local.old bones.old bones.new }
+    ensures local { local.new ≡ local.old }
 {
     if let (Some(n), Some(w)) = (rows, words) {
         columns::keep_columns(bones, n, local, w);

@@ -11,37 +11,39 @@ stored : (s : Stored) → (s ≡ Full → ⊥) → s ≡ Done
 stored Done n = refl
 stored Full n = absurd (n refl)
 
-pub returns-in-Refused : goal.returns-in-Refused
-returns-in-Refused c = fill_no_header _ _ _ _ _ _ _ _ _ _ _ c.header_at.ensures.answer c.in-Refused.is
+pub returns-in-Refused-clause-filled : goal.returns-in-Refused-clause-filled
+returns-in-Refused-clause-filled c = fill_no_header _ _ _ _ _ _ _ _ _ _ _ c.header_at.ensures.answer c.in-Refused.is
 
-pub returns-in_err-buckets_read : goal.returns-in_err-buckets_read
-returns-in_err-buckets_read c =
+pub returns-in_err-buckets-clause-filled : goal.returns-in_err-buckets-clause-filled
+returns-in_err-buckets-clause-filled c =
     let p = err_from_is_err_and c.from_residual.result c.from_residual.ensures.1 in
-    rw (p.1, p.2) (fill-no_rows _ _ _ _ _ _ _ _ _ _ _ c.header_at.ensures.answer c.in-At.is c.read_rows.ensures.tables c.in_err-buckets_read.was)
+    rw (p.1, p.2) (fill-no_rows _ _ _ _ _ _ _ _ _ _ _ c.header_at.ensures.answer c.in-At.is c.read_rows.ensures.tables c.in_err-buckets.was)
 
-pub returns-in_err-inverse_read : goal.returns-in_err-inverse_read
-returns-in_err-inverse_read c =
-    let p = err_from_is_err_and c.from_residual-in_err-inverse_read.result c.from_residual-in_err-inverse_read.ensures.1 in
+pub returns-in_err-inverse-clause-filled : goal.returns-in_err-inverse-clause-filled
+returns-in_err-inverse-clause-filled c =
+    let p = err_from_is_err_and c.from_residual-in_err-inverse.result c.from_residual-in_err-inverse.ensures.1 in
     rw (p.1, p.2)
-    (fill_no_matrices _ _ _ _ _ _ _ _ _ _ _ c.header_at.ensures.answer c.in-At.is c.read_rows.ensures.tables c.in_ok-buckets_read.was
-    c.read_matrices.ensures.tables c.in_err-inverse_read.was)
+    (fill_no_matrices _ _ _ _ _ _ _ _ _ _ _ c.header_at.ensures.answer c.in-At.is c.read_rows.ensures.tables c.in_ok-buckets.was
+    c.read_matrices.ensures.tables c.in_err-inverse.was)
 
-pub returns-in_err-parents_read : goal.returns-in_err-parents_read
-returns-in_err-parents_read c =
-    let p = err_from_is_err_and c.from_residual-in_err-parents_read.result c.from_residual-in_err-parents_read.ensures.1 in
+pub returns-in_err-parents-clause-filled : goal.returns-in_err-parents-clause-filled
+returns-in_err-parents-clause-filled c =
+    let p = err_from_is_err_and c.from_residual-in_err-parents.result c.from_residual-in_err-parents.ensures.1 in
     rw (p.1, p.2)
-    (fill_no_indices _ _ _ _ _ _ _ _ _ _ _ c.header_at.ensures.answer c.in-At.is c.read_rows.ensures.tables c.in_ok-buckets_read.was
-    c.read_matrices.ensures.tables c.in_ok-inverse_read.was c.read_indices.ensures.tables c.in_err-parents_read.was)
+    (fill_no_indices _ _ _ _ _ _ _ _ _ _ _ c.header_at.ensures.answer c.in-At.is c.read_rows.ensures.tables c.in_ok-buckets.was
+    c.read_matrices.ensures.tables c.in_ok-inverse.was c.read_indices.ensures.tables c.in_err-parents.was)
 
-pub returns-in-Full : goal.returns-in-Full
-returns-in-Full c =
-    fill-full _ _ _ _ _ _ _ _ _ _ _ c.header_at.ensures.answer c.in-At.is c.read_rows.ensures.tables c.in_ok-buckets_read.was
-    c.read_matrices.ensures.tables c.in_ok-inverse_read.was c.read_indices.ensures.tables c.in_ok-parents_read.was
-    c.keep.ensures.table c.put.ensures.table c.in-Full.is
+pub returns-in-Full-clause-filled : goal.returns-in-Full-clause-filled
+returns-in-Full-clause-filled c =
+    rw c.keep.ensures.local
+    (fill-full _ _ _ _ _ _ _ _ _ _ _ c.header_at.ensures.answer c.in-At.is c.read_rows.ensures.tables c.in_ok-buckets.was
+    c.read_matrices.ensures.tables c.in_ok-inverse.was c.read_indices.ensures.tables c.in_ok-parents.was
+    c.keep.ensures.bones c.put.ensures.table c.in-Full.is)
 
-pub returns : goal.returns
-returns c =
-    fill_done _ _ _ _ _ _ _ _ _ _ _ c.header_at.ensures.answer c.in-At.is c.read_rows.ensures.tables c.in_ok-buckets_read.was
-    c.read_matrices.ensures.tables c.in_ok-inverse_read.was c.read_indices.ensures.tables c.in_ok-parents_read.was
-    c.keep.ensures.table c.put.ensures.table (stored _ c.in_default.not-Full) (c.keep.auto.bones ∙ c.read_rows.auto.bones) c.read_rows.auto.buckets
-    c.read_rows.auto.entries c.read_matrices.auto.local
+pub returns-clause-filled : goal.returns-clause-filled
+returns-clause-filled c =
+    rw c.keep.ensures.local
+    (fill_done _ _ _ _ _ _ _ _ _ _ _ c.header_at.ensures.answer c.in-At.is c.read_rows.ensures.tables c.in_ok-buckets.was
+    c.read_matrices.ensures.tables c.in_ok-inverse.was c.read_indices.ensures.tables c.in_ok-parents.was
+    c.keep.ensures.bones c.put.ensures.table (stored _ c.in_default.not-Full) (c.keep.auto.bones ∙ c.read_rows.auto.bones) c.read_rows.auto.buckets
+    c.read_rows.auto.entries c.read_matrices.auto.local)

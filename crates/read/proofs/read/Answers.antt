@@ -2,30 +2,26 @@
 use Rattle.read.proofs.Whole.{read_none, read-refused, read_done}
 use Rattle.read.proofs.read.Goals as goal
 
-pub returns-then-root-eq0 : goal.returns-then-root-eq0
-returns-then-root-eq0 c = record { tables = read_none _ _ _ _ c.if-root-eq0.true c.clear_all.ensures }
+pub returns-then-root-eq0-clause-tables : goal.returns-then-root-eq0-clause-tables
+returns-then-root-eq0-clause-tables c = read_none _ _ _ _ c.if-root-eq0.true c.clear.ensures.tables
 
-pub returns-in-Ok : goal.returns-in-Ok
-returns-in-Ok c =
-    record {
-      tables =
-          read_done _ _ _ c.if-root-eq0.false c.clear_all.ensures c.fill.ensures _ c.in-Ok.is c.fill.auto.pool c.clear.ensures.rows;
-    }
+pub returns-in-Ok-clause-tables : goal.returns-in-Ok-clause-tables
+returns-in-Ok-clause-tables c =
+    read_done _ _ _ c.if-root-eq0.false c.clear.ensures.tables c.fill.ensures.filled _ c.in-Ok.is c.fill.ensures.same.pool.size
+    (c.fill-in-Ok.ensures.after (λ y e. e))
 
-pub returns-in-Err : goal.returns-in-Err
-returns-in-Err c =
-    record {
-      tables =
-          read-refused _ _ _ c.if-root-eq0.false c.clear_all.ensures c.fill.ensures _ c.in-Err.is
-          (record {
-            bones = c.fill.auto.bones;
-            buckets = c.fill.auto.buckets;
-            entries = c.fill.auto.entries;
-            inverse = c.fill.auto.inverse;
-            local = c.fill.auto.local;
-            parents = c.fill.auto.parents;
-            children = c.fill.auto.children;
-            pool = c.fill.auto.pool;
-          })
-          c.clear_all-in-Err.ensures;
-    }
+pub returns-in-Err-clause-tables : goal.returns-in-Err-clause-tables
+returns-in-Err-clause-tables c =
+    let s = c.fill.ensures.same in
+    read-refused _ _ _ c.if-root-eq0.false c.clear.ensures.tables c.fill.ensures.filled _ c.in-Err.is
+    (record {
+      bones = s.bones.size;
+      buckets = s.buckets.size;
+      entries = s.entries.size;
+      inverse = s.inverse.size;
+      local = s.local.size;
+      parents = s.parents.size;
+      children = s.children.size;
+      pool = s.pool.size;
+    })
+    c.clear-in-Err.ensures.tables
