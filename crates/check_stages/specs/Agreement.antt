@@ -1,8 +1,7 @@
--- The tests of the verdict, stage by stage (docs/FORMAT.md, "Lookup and check"), and the stages' answer as a result. Definitions only.
+-- The tests of the verdict, stage by stage (docs/FORMAT.md, "Lookup and check"). Definitions only.
 use Rattle.std.specs.Prelude.{ℕ, ◌*◌, List, length, take}
 use Rattle.std.specs.Prelude.{Option}
-use Rattle.format.specs.Result.{Res, refused, done, ◌>>=◌, need}
-use Rattle.format.specs.Refusal.{number}
+use Rattle.format.specs.Result.{Res, ◌>>=◌, need}
 use Rattle.format.specs.Section.{Place}
 use Rattle.format.specs.Bone.{Bone}
 use Rattle.format.specs.Chains.{Entry, chains}
@@ -15,13 +14,6 @@ use Rattle.derive_chains.specs.Tagging.{tags_result}
 use Rattle.derive_children.specs.Indexing.{indices_result}
 use Rattle.derive_matrices.specs.Transforming.{matrices_result}
 use Rattle.check_lists.specs.Chained.{entries_in, alike}
-use Rattle.check_stages.specs.declared.Agreement.{Agreement}
-use Rattle.check_stages.specs.declared.Agreement.TheVariants.{Same, Refused}
-
--- the code's answer as a result
-abbrev pub agreement_of : Agreement → Res (Unit {0})
-agreement_of Same = done tt
-agreement_of (Refused r) = refused (number r)
 
 -- ---- the tests, by the bones and what was read beside them
 

@@ -8,8 +8,8 @@ ghost use Rattle.format.specs.Result.{done};
 ghost use Rattle.format.specs.Deriving.{derives};
 ghost use Rattle.format.specs.Refusal.{outcome};
 ghost use Rattle.format.specs.Rows.{cleared};
-ghost use Rattle.tables.specs.Working.{derive_room};
-ghost use Rattle.check_stages.specs.Agreement.{agreement_of, chains_judged, indices_judged, matrices_judged};
+ghost use Rattle.tables.specs.Working.{lists, room_in};
+ghost use Rattle.check_stages.specs.Agreement.{chains_judged, indices_judged, matrices_judged};
 ghost use Rattle.check_stages.specs.Agreement.{chains_stage, indices_stage, matrices_stage};
 
 use check_lists::{same_chains, same_words};
@@ -17,59 +17,31 @@ use derive_chains::buckets::{bucket_count, entry_count};
 use derive_chains::tags::build_bone_tags;
 use derive_children::indices::build_indices;
 use derive_matrices::matrices::build_transformations;
-use format::Refusal;
+use format::{ENTRY_WORDS, MATRIX_WORDS, Refusal};
 use tables::clear;
-
-// Whether what was read equals what was derived.
-#[derive(Clone, Copy)]
-pub enum Agreement {
-    Same,
-    Refused(Refusal),
-}
+use tables::working::Working;
 
 // ---- room
 
-// Whether working tables of so many words have the rows that n bones need: an entry is three words and a matrix
-// sixteen, and for each of n + 1 there are eight child entries and four pending rows of two words.
-pub fn room(
-    n: usize,
-    buckets: usize,
-    entries: usize,
-    inverse: usize,
-    local: usize,
-    parents: usize,
-    children: usize,
-    pending: usize,
-) -> bool
-    ensures answer { result ≡ derives (derive_room buckets entries inverse local parents children pending) n }
+// Whether working tables have the rows that n bones need: an entry is three words and a matrix sixteen, and for each of n + 1 there are
+// eight child entries and four pending rows of two words.
+#[tactic(auto, unfolding(format::specs::Deriving::derives))]
+pub fn room(n: usize, tables: &Working) -> bool
+    ensures answer { result ≡ derives (room_in (lists tables.now)) n }
 {
-    if buckets < bucket_count(n) {
-        return false;
-    }
-    if entries / format::ENTRY_WORDS < entry_count(n) {
-        return false;
-    }
-    if inverse / format::MATRIX_WORDS < n {
-        return false;
-    }
-    if local / format::MATRIX_WORDS < n {
-        return false;
-    }
-    if parents < n {
-        return false;
-    }
-    if children / 8 <= n {
-        return false;
-    }
-    if pending / 8 <= n {
-        return false;
-    }
-    true
+    bucket_count(n) <= tables.buckets.len()
+        && entry_count(n) <= tables.entries.len() / ENTRY_WORDS
+        && n <= tables.inverse.len() / MATRIX_WORDS
+        && n <= tables.local.len() / MATRIX_WORDS
+        && n <= tables.parents.len()
+        && n < tables.children.len() / 8
+        && n < tables.pending.len() / 8
 }
 
 // ---- chains
 
 // 21, behind what deriving gave.
+#[tactic(auto, unfolding(crate::specs::Agreement::chains_judged))]
 fn chains_judged(
     derived: Result<usize, Refusal>,
     buckets: &[u32],
@@ -78,20 +50,16 @@ fn chains_judged(
     n: usize,
     dbuckets: &[u32],
     dentries: &[u32],
-) -> Agreement
-    ensures answer { agreement_of result
+) -> Result<(), Refusal>
+    ensures answer { outcome result
         ≡ chains_judged (outcome derived) buckets.now count entries.now n dbuckets.now
         dentries.now }
 {
-    match derived {
-        Err(r) => Agreement::Refused(r),
-        Ok(c) => {
-            if !same_chains(buckets, count, entries, n, dbuckets, c, dentries) {
-                return Agreement::Refused(Refusal::Chains);
-            }
-            Agreement::Same
-        }
+    let c = derived?;
+    if !same_chains(buckets, count, entries, n, dbuckets, c, dentries) {
+        return Err(Refusal::Chains);
     }
+    Ok(())
 }
 
 // Compares the chains of the first `count` buckets read with those of the first n bones of a table: 21. A chain of more than n
@@ -104,8 +72,8 @@ pub fn chains_stage(
     entries: &[u32],
     dbuckets: &mut [u32],
     dentries: &mut [u32],
-) -> Agreement
-    ensures answer { agreement_of result
+) -> Result<(), Refusal>
+    ensures answer { outcome result
         ≡ chains_stage n bones.now count buckets.now entries.now
         (length dbuckets.old) (length dentries.old) }
     ensures work { (dbuckets.new ≡ cleared (length dbuckets.old))
@@ -121,6 +89,7 @@ pub fn chains_stage(
 // ---- parents and children
 
 // 22, then 23, behind what deriving gave.
+#[tactic(auto, unfolding(crate::specs::Agreement::indices_judged))]
 fn indices_judged(
     derived: Result<usize, Refusal>,
     n: usize,
@@ -130,23 +99,19 @@ fn indices_judged(
     c: usize,
     dparents: &[u16],
     dchildren: &[u16],
-) -> Agreement
-    ensures answer { agreement_of result
+) -> Result<(), Refusal>
+    ensures answer { outcome result
         ≡ indices_judged (outcome derived) n parents.now p children.now c dparents.now
         dchildren.now }
 {
-    match derived {
-        Err(r) => Agreement::Refused(r),
-        Ok(k) => {
-            if !same_words(parents, p, dparents, n) {
-                return Agreement::Refused(Refusal::Parents);
-            }
-            if !same_words(children, c, dchildren, k) {
-                return Agreement::Refused(Refusal::Children);
-            }
-            Agreement::Same
-        }
+    let k = derived?;
+    if !same_words(parents, p, dparents, n) {
+        return Err(Refusal::Parents);
     }
+    if !same_words(children, c, dchildren, k) {
+        return Err(Refusal::Children);
+    }
+    Ok(())
 }
 
 // Compares the first p parents and then the first c child entries read with those of the first n bones of a table: 22, then 23.
@@ -161,8 +126,8 @@ pub fn indices_stage(
     dparents: &mut [u16],
     dchildren: &mut [u16],
     pending: &mut [u32],
-) -> Agreement
-    ensures answer { agreement_of result
+) -> Result<(), Refusal>
+    ensures answer { outcome result
         ≡ indices_stage n bones.now p parents.now c children.now
         (length dparents.old) (length dchildren.old) (length pending.old) }
     ensures work { (dparents.new ≡ cleared (length dparents.old))
@@ -179,6 +144,7 @@ pub fn indices_stage(
 // ---- matrices
 
 // 24, then 25, behind what deriving gave.
+#[tactic(auto, unfolding(crate::specs::Agreement::matrices_judged))]
 fn matrices_judged(
     derived: Result<(), Refusal>,
     n: usize,
@@ -188,25 +154,21 @@ fn matrices_judged(
     l: usize,
     dinverse: &[u32],
     dlocal: &[u32],
-) -> Agreement
+) -> Result<(), Refusal>
     requires { outcome derived ≡ done tt → n ≤ 65535 }
-    ensures answer { agreement_of result
+    ensures answer { outcome result
         ≡ matrices_judged (outcome derived) n inverse.now i local.now l dinverse.now
         dlocal.now }
 {
-    match derived {
-        Err(r) => Agreement::Refused(r),
-        Ok(()) => {
-            let words = format::MATRIX_WORDS * n;
-            if !same_words(inverse, i, dinverse, words) {
-                return Agreement::Refused(Refusal::Inverse);
-            }
-            if !same_words(local, l, dlocal, words) {
-                return Agreement::Refused(Refusal::Local);
-            }
-            Agreement::Same
-        }
+    derived?;
+    let words = MATRIX_WORDS * n;
+    if !same_words(inverse, i, dinverse, words) {
+        return Err(Refusal::Inverse);
     }
+    if !same_words(local, l, dlocal, words) {
+        return Err(Refusal::Local);
+    }
+    Ok(())
 }
 
 // Compares the first i words of the inverse matrices and then the first l of the local ones read with those of the first n bones of a
@@ -220,8 +182,8 @@ pub fn matrices_stage(
     l: usize,
     dinverse: &mut [u32],
     dlocal: &mut [u32],
-) -> Agreement
-    ensures answer { agreement_of result
+) -> Result<(), Refusal>
+    ensures answer { outcome result
         ≡ matrices_stage n bones.now i inverse.now l local.now
         (length dinverse.old) (length dlocal.old) }
     ensures work { (dinverse.new ≡ cleared (length dinverse.old))

@@ -6,16 +6,18 @@ ghost use Rattle.std.specs.Prelude.{◌≡◌, length};
 ghost use Rattle.format.specs.Deriving.{derives};
 ghost use Rattle.format.specs.Refusal.{outcome};
 ghost use Rattle.format.specs.Rows.{cleared};
-ghost use Rattle.tables.specs.Working.{derive_room};
+ghost use Rattle.tables.specs.Working.{lists as working_lists};
+ghost use Rattle.tables.specs.Working.{room_in};
 ghost use Rattle.check_stages.specs.Agreement.{chains_stage, indices_stage, matrices_stage};
-ghost use Rattle.read.specs.Lent.{lent};
+ghost use Rattle.read.specs.Lent.{lists, SameTables};
 ghost use Rattle.read.specs.Reads.{meant_read};
 ghost use Rattle.check_steps.specs.Steps.{counts_of, begun, behind, kept_by};
 
-use check_stages::{Agreement, chains_stage, indices_stage, matrices_stage, room};
+use check_stages::{chains_stage, indices_stage, matrices_stage, room};
 use format::Refusal;
-use read::{Skeleton, clear_all};
+use read::{Skeleton, Tables};
 use tables::clear;
+use tables::working::Working;
 
 // How long each part is that was read: in rows, and in words of a list of matrices. What is absent counts 0.
 #[derive(Clone, Copy, Debug, Default, PartialEq, Eq)]
@@ -44,27 +46,18 @@ pub fn count_parts(r: Result<Option<Skeleton>, Refusal>) -> Counts
     }
 }
 
-// Reading's answer, then 1 where working tables of so many words lack the rows for n bones.
+// Reading's answer, then 1 where the working tables lack the rows for n bones.
 pub fn begin(
     r: Result<Option<Skeleton>, Refusal>,
     n: usize,
-    buckets: usize,
-    entries: usize,
-    inverse: usize,
-    local: usize,
-    parents: usize,
-    children: usize,
-    pending: usize,
+    working: &Working,
 ) -> Result<Option<usize>, Refusal>
-    ensures answer { outcome result
-        ≡ begun (meant_read r) n (derives (derive_room buckets entries inverse local parents children pending) n) }
+    ensures answer { outcome result ≡ begun (meant_read r) n (derives (room_in (working_lists working.now)) n) }
 {
     let Some(_) = r? else {
         return Ok(None);
     };
-    if room(
-        n, buckets, entries, inverse, local, parents, children, pending,
-    ) {
+    if room(n, working) {
         Ok(Some(n))
     } else {
         Err(Refusal::TableTooShort)
@@ -74,31 +67,27 @@ pub fn begin(
 // 21: the chains, where nothing was refused so far. The working tables are zero after it.
 pub fn chains_step(
     v: Result<Option<usize>, Refusal>,
-    bones: &[u32],
-    buckets: &[u32],
-    count: usize,
-    entries: &[u32],
+    tables: &Tables,
+    counts: Counts,
     derived_buckets: &mut [u32],
     derived_entries: &mut [u32],
 ) -> Result<Option<usize>, Refusal>
     ensures answer { outcome result ≡ behind (outcome v) (λ n.
-        chains_stage n bones.now count buckets.now entries.now
+        chains_stage n tables.now.bones.now counts.buckets tables.now.buckets.now tables.now.entries.now
         (length derived_buckets.old) (length derived_entries.old)) }
     ensures work { (derived_buckets.new ≡ cleared (length derived_buckets.old))
         × (derived_entries.new ≡ cleared (length derived_entries.old)) }
 {
     if let Ok(Some(n)) = v {
-        if let Agreement::Refused(x) = chains_stage(
-            bones,
+        chains_stage(
+            tables.bones,
             n,
-            buckets,
-            count,
-            entries,
+            tables.buckets,
+            counts.buckets,
+            tables.entries,
             derived_buckets,
             derived_entries,
-        ) {
-            return Err(x);
-        }
+        )?;
         return Ok(Some(n));
     }
     clear(derived_buckets);
@@ -109,36 +98,31 @@ pub fn chains_step(
 // 22, then 23: parents and children, where nothing was refused so far. The working tables are zero after it.
 pub fn indices_step(
     v: Result<Option<usize>, Refusal>,
-    bones: &[u32],
-    parents: &[u16],
-    p: usize,
-    children: &[u16],
-    c: usize,
+    tables: &Tables,
+    counts: Counts,
     derived_parents: &mut [u16],
     derived_children: &mut [u16],
     pending: &mut [u32],
 ) -> Result<Option<usize>, Refusal>
     ensures answer { outcome result ≡ behind (outcome v) (λ n.
-        indices_stage n bones.now p parents.now c children.now
+        indices_stage n tables.now.bones.now counts.parents tables.now.parents.now counts.children tables.now.children.now
         (length derived_parents.old) (length derived_children.old) (length pending.old)) }
     ensures work { (derived_parents.new ≡ cleared (length derived_parents.old))
         × (derived_children.new ≡ cleared (length derived_children.old))
         × (pending.new ≡ cleared (length pending.old)) }
 {
     if let Ok(Some(n)) = v {
-        if let Agreement::Refused(y) = indices_stage(
-            bones,
+        indices_stage(
+            tables.bones,
             n,
-            parents,
-            p,
-            children,
-            c,
+            tables.parents,
+            counts.parents,
+            tables.children,
+            counts.children,
             derived_parents,
             derived_children,
             pending,
-        ) {
-            return Err(y);
-        }
+        )?;
         return Ok(Some(n));
     }
     clear(derived_parents);
@@ -150,33 +134,28 @@ pub fn indices_step(
 // 24, then 25: the matrices, where nothing was refused so far. The working tables are zero after it.
 pub fn matrices_step(
     v: Result<Option<usize>, Refusal>,
-    bones: &[u32],
-    inverse: &[u32],
-    i: usize,
-    local: &[u32],
-    l: usize,
+    tables: &Tables,
+    counts: Counts,
     derived_inverse: &mut [u32],
     derived_local: &mut [u32],
 ) -> Result<Option<usize>, Refusal>
     ensures answer { outcome result ≡ behind (outcome v) (λ n.
-        matrices_stage n bones.now i inverse.now l local.now
+        matrices_stage n tables.now.bones.now counts.inverse tables.now.inverse.now counts.local tables.now.local.now
         (length derived_inverse.old) (length derived_local.old)) }
     ensures work { (derived_inverse.new ≡ cleared (length derived_inverse.old))
         × (derived_local.new ≡ cleared (length derived_local.old)) }
 {
     if let Ok(Some(n)) = v {
-        if let Agreement::Refused(z) = matrices_stage(
-            bones,
+        matrices_stage(
+            tables.bones,
             n,
-            inverse,
-            i,
-            local,
-            l,
+            tables.inverse,
+            counts.inverse,
+            tables.local,
+            counts.local,
             derived_inverse,
             derived_local,
-        ) {
-            return Err(z);
-        }
+        )?;
         return Ok(Some(n));
     }
     clear(derived_inverse);
@@ -187,26 +166,15 @@ pub fn matrices_step(
 // The answer, with the reading's tables cleared unless it is an acceptance.
 pub fn settle(
     v: Result<Option<usize>, Refusal>,
-    bones: &mut [u32],
-    buckets: &mut [u32],
-    entries: &mut [u32],
-    inverse: &mut [u32],
-    local: &mut [u32],
-    parents: &mut [u16],
-    children: &mut [u16],
-    pool: &mut [u64],
+    tables: &mut Tables,
 ) -> Result<Option<usize>, Refusal>
     ensures answer { result ≡ v }
-    ensures tables { lent bones.new buckets.new entries.new inverse.new
-        local.new parents.new children.new pool.new
-        ≡ kept_by v (lent bones.old buckets.old entries.old inverse.old
-        local.old parents.old children.old pool.old) }
+    ensures tables { lists tables.new ≡ kept_by v (lists tables.old) }
+    ensures same { SameTables tables.old tables.new }
 {
     if let Ok(Some(_)) = v {
         return v;
     }
-    clear_all(
-        bones, buckets, entries, inverse, local, parents, children, pool,
-    );
+    tables.clear();
     v
 }

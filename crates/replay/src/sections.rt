@@ -1,8 +1,9 @@
 // Reading a skeleton and looking up a tag replayed (docs/FORMAT.md, "Reading and writing a skeleton", "Lookup and check").
 use crate::buffers;
+use blocks::places::Section;
 use format::Refusal;
 use lookup::Looked;
-use read::Skeleton;
+use read::{Skeleton, Tables};
 
 // the parts
 const OTHERS: u16 = 3;
@@ -90,10 +91,11 @@ fn lists_into(
     let local = &mut local_table[..l];
     let parents = &mut parents_table[..p];
     let children = &mut children_table[..c];
-    let r = read::read(
-        replay_sample::part(case, SYSTEM),
-        replay_sample::part(case, GRAPHICS),
-        root,
+    let section = Section {
+        system: replay_sample::part(case, SYSTEM),
+        graphics: replay_sample::part(case, GRAPHICS),
+    };
+    let mut tables = Tables {
         bones,
         buckets,
         entries,
@@ -102,7 +104,8 @@ fn lists_into(
         parents,
         children,
         pool,
-    );
+    };
+    let r = read::read(section, root, &mut tables);
     let lists = lists_agree(want, inverse, local, parents, children);
     buffers::all(answer_agrees(r, want, answer), lists, true, true)
 }

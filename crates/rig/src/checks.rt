@@ -5,6 +5,9 @@ ghost use Rattle.read.specs.Lent.{lent};
 ghost use Rattle.tables.specs.Working.{working};
 ghost use Rattle.rig_answers.specs.Told.{CheckTold};
 
+use read::Tables;
+use tables::working::Working;
+
 // The check of the skeleton at a root address, as `verify::check` says, which also has the order of the refusals. `count` is the
 // number of bones read, 0 unless the section is accepted. The tables of the reading are as `rig_read` leaves them after an acceptance,
 // else zero; the pool and the tables for deriving are zero after every call.
@@ -40,10 +43,7 @@ pub extern "C" fn rig_check<'a>(
         (working derived_buckets.new derived_entries.new derived_inverse.new
         derived_local.new derived_parents.new derived_children.new pending.new) }
 {
-    let r = verify::check(
-        sys,
-        gfx,
-        root,
+    let mut tables = Tables {
         bones,
         buckets,
         entries,
@@ -52,14 +52,17 @@ pub extern "C" fn rig_check<'a>(
         parents,
         children,
         pool,
-        derived_buckets,
-        derived_entries,
-        derived_inverse,
-        derived_local,
-        derived_parents,
-        derived_children,
+    };
+    let mut working = Working {
+        buckets: derived_buckets,
+        entries: derived_entries,
+        inverse: derived_inverse,
+        local: derived_local,
+        parents: derived_parents,
+        children: derived_children,
         pending,
-    );
+    };
+    let r = verify::check(sys, gfx, root, &mut tables, &mut working);
     *count = rig_answers::given(r);
     rig_answers::status(r)
 }

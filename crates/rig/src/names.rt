@@ -6,6 +6,8 @@ ghost use Rattle.blocks.specs.Places.{section};
 ghost use Rattle.read.specs.Lent.{lent};
 ghost use Rattle.rig_answers.specs.Told.{SearchTold};
 
+use read::Tables;
+
 #[unsafe(no_mangle)]
 pub extern "C" fn rig_rage_joaat(s: &[u8]) -> u32
     ensures answer { result ≡ rage_joaat s.now }
@@ -37,9 +39,17 @@ pub extern "C" fn rig_search<'a>(
         (lent bones.new buckets.new entries.new inverse.new
         local.new parents.new children.new pool.new) }
 {
-    let r = search::search(
-        sys, gfx, root, key, bones, buckets, entries, inverse, local, parents, children, pool,
-    );
+    let mut tables = Tables {
+        bones,
+        buckets,
+        entries,
+        inverse,
+        local,
+        parents,
+        children,
+        pool,
+    };
+    let r = search::search(sys, gfx, root, key, &mut tables);
     *position = rig_answers::given(r);
     rig_answers::status(r)
 }

@@ -11,6 +11,7 @@ ghost use Rattle.rig_answers.specs.Told.{free_of, ReadTold, WriteTold};
 
 use blocks::places::Section;
 use format::Words4;
+use read::Tables;
 use tables::working::Working;
 
 // The skeleton at a root address, read into tables as `read::read` says, which also has the order of the refusals: the rows read and
@@ -40,9 +41,21 @@ pub extern "C" fn rig_read<'a>(
         (lent bones.new buckets.new entries.new inverse.new
         local.new parents.new children.new pool.new) }
 {
-    let r = read::read(
-        sys, gfx, root, bones, buckets, entries, inverse, local, parents, children, pool,
-    );
+    let mut tables = Tables {
+        bones,
+        buckets,
+        entries,
+        inverse,
+        local,
+        parents,
+        children,
+        pool,
+    };
+    let section = Section {
+        system: sys,
+        graphics: gfx,
+    };
+    let r = read::read(section, root, &mut tables);
     *fields = rig_answers::read_fields(r);
     rig_answers::status(r)
 }

@@ -7,12 +7,13 @@ ghost use Rattle.format.specs.Read.{read_skeleton};
 ghost use Rattle.format.specs.Refusal.{outcome};
 ghost use Rattle.format.specs.Search as Definitions;
 ghost use Rattle.blocks.specs.Places.{section};
-ghost use Rattle.read.specs.Lent.{lent, read_room};
+ghost use Rattle.read.specs.Lent.{lists, read_room, SameTables};
 ghost use Rattle.read.specs.Reads.{read_leaves};
 ghost use Rattle.search.specs.Searched.{first_in};
 
+use blocks::places::Section;
 use format::Refusal;
-use read::Skeleton;
+use read::{Skeleton, Tables};
 
 mod named; // the first bone of a table whose name hashes to a key
 
@@ -20,48 +21,34 @@ mod named; // the first bone of a table whose name hashes to a key
 fn first_in<'a>(
     sys: &'a [u8],
     gfx: &'a [u8],
-    bones: &[u32],
+    tables: &Tables,
     r: Result<Option<Skeleton>, Refusal>,
     key: u32,
 ) -> Result<Option<usize>, Refusal>
-    ensures { outcome result ≡ first_in (section sys.now gfx.now) key bones.now r }
+    ensures { outcome result ≡ first_in (section sys.now gfx.now) key tables.now.bones.now r }
 {
     let Some(s) = r? else {
         return Ok(None);
     };
-    Ok(named::first_named(sys, gfx, bones, s.bones.unwrap_or(0), key))
+    Ok(named::first_named(sys, gfx, tables.bones, s.bones.unwrap_or(0), key))
 }
 
 // The position of the first bone whose stored name bytes hash to a key, in the section that is read at a root address; bones
 // without a name are skipped. Root 0 gives none. The refusals are reading's. After the search the tables hold what reading leaves
 // (`read::read`): the rows and zeros behind them, all zero after none for root 0 and after a refusal, and the pool always.
-pub fn search<'a>(
-    sys: &'a [u8],
-    gfx: &'a [u8],
+// The halves stand beside one another here: of the bytes of a slice lent a proof knows that they are bytes, and not of those in a struct.
+pub fn search(
+    system: &[u8],
+    graphics: &[u8],
     root: u64,
     key: u32,
-    bones: &mut [u32],
-    buckets: &mut [u32],
-    entries: &mut [u32],
-    inverse: &mut [u32],
-    local: &mut [u32],
-    parents: &mut [u16],
-    children: &mut [u16],
-    pool: &mut [u64],
+    tables: &mut Tables,
 ) -> Result<Option<usize>, Refusal>
-    ensures answer { outcome result ≡ Definitions.search (section sys.now gfx.now)
-        (read_room (lent bones.old buckets.old entries.old inverse.old
-        local.old parents.old children.old pool.old)) root key }
-    ensures tables { lent bones.new buckets.new entries.new inverse.new
-        local.new parents.new children.new pool.new
-        ≡ read_leaves (read_skeleton (section sys.now gfx.now)
-        (read_room (lent bones.old buckets.old entries.old inverse.old
-        local.old parents.old children.old pool.old)) root no_rows)
-        (lent bones.old buckets.old entries.old inverse.old
-        local.old parents.old children.old pool.old) }
+    ensures answer { outcome result ≡ Definitions.search (section system.now graphics.now) (read_room (lists tables.old)) root key }
+    ensures tables { lists tables.new ≡ read_leaves (read_skeleton (section system.now graphics.now) (read_room (lists tables.old)) root no_rows)
+        (lists tables.old) }
+    ensures same { SameTables tables.old tables.new }
 {
-    let r = read::read(
-        sys, gfx, root, bones, buckets, entries, inverse, local, parents, children, pool,
-    );
-    first_in(sys, gfx, bones, r, key)
+    let r = read::read(Section { system, graphics }, root, tables);
+    first_in(system, graphics, tables, r, key)
 }

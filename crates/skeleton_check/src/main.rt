@@ -10,7 +10,9 @@ ghost use Rattle.format.specs.Program.{printed, report};
 
 use crate::report::Report;
 use format::Refusal;
+use read::Tables;
 use std::{fmt, io};
+use tables::working::Working;
 
 // The longest section.
 const LONGEST: usize = 65536;
@@ -24,40 +26,31 @@ fn check(sys: &[u8]) -> Result<Option<u16>, Refusal>
         return Err(Refusal::TableTooShort);
     }
     let gfx = [0u8; 1];
-    let mut bones = [0u32; 16800];
-    let mut buckets = [0u32; 8192];
-    let mut entries = [0u32; 12288];
-    let mut inverse = [0u32; 12800];
-    let mut local = [0u32; 12800];
-    let mut parents = [0u16; 800];
-    let mut children = [0u16; 8192];
-    let mut pool = [0u64; 32768];
-    let mut derived_buckets = [0u32; 8192];
-    let mut derived_entries = [0u32; 12288];
-    let mut derived_inverse = [0u32; 12800];
-    let mut derived_local = [0u32; 12800];
-    let mut derived_parents = [0u16; 800];
-    let mut derived_children = [0u16; 8192];
-    let mut pending = [0u32; 6408];
+    let mut tables = Tables {
+        bones: &mut [0u32; 16800],
+        buckets: &mut [0u32; 8192],
+        entries: &mut [0u32; 12288],
+        inverse: &mut [0u32; 12800],
+        local: &mut [0u32; 12800],
+        parents: &mut [0u16; 800],
+        children: &mut [0u16; 8192],
+        pool: &mut [0u64; 32768],
+    };
+    let mut working = Working {
+        buckets: &mut [0u32; 8192],
+        entries: &mut [0u32; 12288],
+        inverse: &mut [0u32; 12800],
+        local: &mut [0u32; 12800],
+        parents: &mut [0u16; 800],
+        children: &mut [0u16; 8192],
+        pending: &mut [0u32; 6408],
+    };
     let count = verify::check(
         sys,
         &gfx[..0],
         format::SYSTEM_BASE,
-        &mut bones,
-        &mut buckets,
-        &mut entries,
-        &mut inverse,
-        &mut local,
-        &mut parents,
-        &mut children,
-        &mut pool,
-        &mut derived_buckets,
-        &mut derived_entries,
-        &mut derived_inverse,
-        &mut derived_local,
-        &mut derived_parents,
-        &mut derived_children,
-        &mut pending,
+        &mut tables,
+        &mut working,
     )?;
     let Some(bones) = count else {
         return Ok(None);
