@@ -1,4 +1,6 @@
 // Joints replayed (docs/FORMAT.md, "Joints and names").
+ghost use Rattle.std.specs.Prelude.{◌≤◌};
+
 use crate::buffers;
 use blocks::places::Section;
 use fields::runs;
@@ -109,7 +111,9 @@ const ROW: u16 = 3;
 
 pub(crate) fn row_read_agrees<L: Limit<BYTES, WORDS>, const BYTES: usize, const WORDS: usize>(
     case: &[u8],
-) -> bool {
+) -> bool
+    requires { (BYTES ≤ 192) × (WORDS ≤ 49) }
+{
     let words = replay_sample::loaded32(replay_sample::part(case, RECORD));
     let mut bytes = [0u8; BYTES];
     let slots = words.len().min(BYTES / 4);
@@ -128,7 +132,9 @@ pub(crate) fn row_write_agrees<L: Limit<BYTES, WORDS>, const BYTES: usize, const
     case: &[u8],
     n: usize,
     answer: u32,
-) -> bool {
+) -> bool
+    requires { (BYTES ≤ 192) × (WORDS ≤ 49) }
+{
     let words = replay_sample::loaded32(replay_sample::part(case, WRITTEN_ROW));
     let mut row = [0u32; WORDS];
     let _ = runs::copy(&words, 0, WORDS, &mut row, 0);
