@@ -1,12 +1,12 @@
 -- Rows and records of a list of limits (docs/FORMAT.md, "Joints and names"): as the code's chunks, and as the rows of the definitions. Assumes
 -- nothing.
-use mathlib.Core.Path.{◌≡◌, refl, sym, ap, ◌∙◌}
+use mathlib.Core.Path.{◌≡◌, refl, ap, ◌∙◌}
 use mathlib.Core.List.{List, [], ◌∷◌, ◌++◌, map, flat_map}
-use Prim.Native.Nat.{ℕ, zero, suc, ◌+◌, ◌*◌, ◌≤◌, ◌<◌}
-use native.Mathlib.Nat.{mul-zero, mul-suc}
+use Prim.Native.Nat.{ℕ, zero, suc, ◌+◌, ◌*◌, ◌≤◌}
+use native.Mathlib.Nat.{mul-suc}
 use native.Mathlib.Omega.{arith}
-use lib.ListN.{length, take, drop, length-append, length-map, length-drop}
-use lib.Seq.{take_at, drop_at, length-take-le}
+use lib.ListN.{length, take, drop, length-map}
+use lib.Seq.{take_at, drop_at}
 use Rattle.std.specs.Simd.{first_chunks}
 use Rattle.format.specs.Field.{words}
 use Rattle.format.specs.Joints.{rotation_row, translation_row, limit_rows}

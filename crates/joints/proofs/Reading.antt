@@ -4,17 +4,15 @@ use mathlib.Core.Path.{◌≡◌, refl, sym, ap, ◌∙◌}
 use mathlib.Core.Bool.{Bool, true, false}
 use Rattle.std.specs.Simd.{first_chunks}
 use Rattle.std.specs.Prelude.{Option, None, Some}
-use mathlib.Core.List.{List, [], ◌∷◌, ◌++◌, map, flat_map, append_assoc}
+use mathlib.Core.List.{List, [], ◌++◌, map, flat_map, append_assoc}
 use Prim.Native.Nat.{ℕ, zero, suc, ◌+◌, ◌-◌, ◌*◌, ◌/◌, ◌≤◌, ◌<◌}
-use native.Mathlib.Nat.{mul-zero, mul_comm, mul-suc, mul_assoc, sub-zero, le-div_iff_mul-le, mul-div_cancel}
+use native.Mathlib.Nat.{mul_comm, mul-suc, sub-zero, mul-div_cancel}
 use native.Mathlib.Omega.{arith}
 use borrow.Author.Tests.{le-leb, lt-leb, leb-true}
 use lib.Dec.{leb}
 use lib.ListN.{length, take, drop, replicate, length-replicate, length-drop}
 use lib.Seq.{length-take-le, take_at, drop_at}
 use Rattle.format.specs.Result.{Res, refused, done, ◌>>=◌, need}
-use Rattle.format.specs.Refusal.{number}
-use Rattle.format.specs.declared.Refusal.{Refusal}
 use Rattle.format.specs.Field.{field_at, words}
 use Rattle.format.specs.Section.{Section, Spot, spot, part, array}
 use Rattle.format.specs.Rows.{laid, cleared}

@@ -8,7 +8,7 @@ use native.Mathlib.Omega.{arith}
 use lib.ListN.{length, get_or, take, drop, replicate, length-replicate, drop_of_length-le}
 use lib.Seq.{drop-cons, sets, sets-eq, take_all}
 use Rattle.format.specs.Field.{value_of, bytes, words, word_bytes}
-use Rattle.format.specs.Joints.{rotation_slots, rotation_limit, rotation_words, rotation_row, fresh_slots, fresh_rotation_limit}
+use Rattle.format.specs.Joints.{rotation_slots, rotation_limit, rotation_words, rotation_row, fresh_slots}
 use Rattle.format.specs.Joints.{translation_slots, translation_limit, translation_words, translation_row}
 use Rattle.fields.proofs.WordLists.{length-words, length-word_bytes}
 use Rattle.fields.proofs.RunLaws.{loaded-stands, stored-stands}

@@ -1,7 +1,6 @@
 -- What the two kinds of limits meet (`specs/Limit.antt`). Assumes nothing.
-use Rattle.std.specs.Prelude.{◌≡◌, refl, ℕ, List, Bool, true, leb, get_or}
+use Rattle.std.specs.Prelude.{◌≡◌, refl, ℕ, List, true, leb, get_or}
 use Rattle.std.proofs.Common.{arith}
-use Rattle.format.specs.Result.{Res, ◌>>=◌, need}
 use Rattle.format.specs.Joints.{rotation_slots, rotation_row, rotation_written, translation_slots, translation_row, translation_written}
 use Rattle.joints.specs.Limit.{Sizes, limit_written}
 

@@ -1,5 +1,5 @@
 -- What our writer of joints answers, and what it leaves in the buffer (docs/FORMAT.md, "Joints and names"). Definitions only.
-use Rattle.std.specs.Prelude.{ℕ, ◌+◌, ◌*◌, ◌≤◌, List, ◌++◌, map, length, drop, leb}
+use Rattle.std.specs.Prelude.{ℕ, ◌*◌, List, ◌++◌, map, length, drop, leb}
 use Rattle.format.specs.Result.{Res, refused, done, ◌>>=◌, need}
 use Rattle.format.specs.Joints.{RotationLimit, rotation_row, rotation_width, TranslationLimit, translation_row, translation_width}
 use Rattle.format.specs.Joints.{limit_rows, joints_written}

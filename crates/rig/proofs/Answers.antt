@@ -1,11 +1,11 @@
 -- A status and a count say what the answer was. Assumes nothing.
 use Prim.Native.Nat.{ℕ}
-use mathlib.Core.Path.{◌≡◌, refl, sym, ap, ◌∙◌}
+use mathlib.Core.Path.{◌≡◌, refl, ap, ◌∙◌}
 use Rattle.std.specs.Prelude.{Option, None, Some}
 use mathlib.Core.List.{List, [], ◌∷◌, map}
 use lib.ListN.{length-map}
 use Rattle.format.specs.Result.{Res, refused, done, status}
-use Rattle.format.specs.Joints.{Joints, rotation_row, rotation_width, translation_row, translation_width, limit_rows}
+use Rattle.format.specs.Joints.{rotation_row, rotation_width, translation_row, translation_width, limit_rows}
 use Rattle.joints.specs.Reading.{limits_in, joints_in}
 use Rattle.joints.proofs.Chunks.{length-limit_rows}
 use Rattle.joints.specs.declared.read.Joints as declared

@@ -1,6 +1,6 @@
 -- `joints::read::read` meets its contract (docs/FORMAT.md, "Joints and names"): each way out by what leads to it. Assumes nothing.
 use borrow.Author.Rules.{rules}
-use mathlib.Core.Path.{◌≡◌, ◌∙◌}
+use mathlib.Core.Path.{◌≡◌}
 use lib.ListN.{length}
 use Rattle.std.specs.Prelude.{Some}
 use Rattle.format.specs.Result.{refused, done}

@@ -1,6 +1,6 @@
 -- `joints::rows::load` meets its contract: `Laid` holds at each turn. Assumes nothing.
 use borrow.Author.Rules.{rules}
-use mathlib.Core.Path.{◌≡◌, ◌∙◌}
+use mathlib.Core.Path.{◌≡◌}
 use lib.ListN.{length}
 use native.Mathlib.Omega.{arith}
 use Rattle.joints.proofs.Pieces.{laid_none, laid-room, laid_length, laid-next, laid_all}

@@ -1,5 +1,4 @@
 -- `joints::rows::store` meets its contract: `Laid` holds at each turn, of the bytes of each row. Assumes nothing.
-use Prim.Native.Nat.{ℕ}
 use Rattle.format.specs.Field.{word_bytes}
 use Rattle.joints.proofs.Pieces.{Laid}
 use Rattle.joints.proofs.rows.store.Given as goal

@@ -1,5 +1,5 @@
 -- `joints::write::lay_section` meets its contract: the record, and the records of the two lists behind it. Assumes nothing.
-use mathlib.Core.Path.{◌≡◌, ◌∙◌}
+use mathlib.Core.Path.{◌∙◌}
 use Rattle.joints.proofs.Laying.{section_laid}
 use Rattle.joints.proofs.write.lay_section.Goals as goal
 

@@ -1,6 +1,5 @@
 -- `Rotation::from_record` meets its contract: the words of the row, one by one. Assumes nothing.
 use borrow.Author.Rules.{rules}
-use mathlib.Core.Path.{◌≡◌, ◌∙◌}
 use Rattle.joints.proofs.Slots.{rotation_read_lem}
 use Rattle.joints.proofs.limits.RotationLimit19249.from_record.Goals as goal
 

@@ -1,6 +1,5 @@
 -- `Translation::from_record` meets its contract: the words of the row, one by one. Assumes nothing.
 use borrow.Author.Rules.{rules}
-use mathlib.Core.Path.{◌≡◌, ◌∙◌}
 use Rattle.joints.proofs.Slots.{translation_read_lem}
 use Rattle.joints.proofs.limits.TranslationLimit6416.from_record.Goals as goal
 

@@ -1,5 +1,4 @@
 -- `Rows::get` meets its contract: the rows are the code's chunks. Assumes nothing.
-use mathlib.Core.Path.{◌≡◌, ◌∙◌}
 use Rattle.joints.proofs.Laying.{rows_short, rows_first}
 use Rattle.joints.proofs.write.Rows.get.Goals as goal
 
