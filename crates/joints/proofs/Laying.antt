@@ -45,16 +45,6 @@ unfolding pointer
 pointer_lt m at zero h = omega arith
 pointer_lt m at (suc n) h = h
 
--- the pointer by the code's test
-pub pointer_none : (at : ℕ) {n : ℕ} → n ≡ 0 → 0 ≡ pointer at n
-unfolding pointer
-pointer_none at e = rw e refl
-
-pub pointer-some : (at n : ℕ) → (n ≡ 0 → ⊥) → at ≡ pointer at n
-unfolding pointer
-pointer-some at zero h = absurd (h refl)
-pointer-some at (suc n) h = refl
-
 pub header-bytes :
     (r t : ℕ) {p q : ℕ} →
     r ≤ 65535 →

@@ -37,6 +37,7 @@ impl<'a, const WORDS: usize> Rows<'a, WORDS> {
 const FIRST_LIMIT: u32 = 0x5000_0040;
 
 // The pointer to n limits: 0 for an empty list.
+#[tactic(auto, unfolding(format::specs::Layout::pointer))]
 fn pointer(at: u32, n: usize) -> u32
     ensures { result ≡ Layout.pointer at n }
 {

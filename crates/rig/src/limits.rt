@@ -82,16 +82,6 @@ pub extern "C" fn rig_joints_read(
     rig_answers::status(read)
 }
 
-// 0 for what is written, else the number of the refusal.
-fn written_status<T: Copy>(written: Result<T, Refusal>) -> u32
-    ensures { result ≡ status (outcome written) }
-{
-    match written {
-        Ok(_) => 0,
-        Err(refusal) => u32::from(refusal),
-    }
-}
-
 // The section of the limits in the first r and t rows of two tables. `count` is the number of its bytes, 0 after a refusal.
 #[unsafe(no_mangle)]
 pub extern "C" fn rig_joints_write(
@@ -119,8 +109,8 @@ pub extern "C" fn rig_joints_write(
         count: t,
     };
     let written = joints::write::write(rotations, translations, out);
-    *count = written.unwrap_or(0);
-    written_status(written)
+    *count = rig_answers::written_count(written);
+    rig_answers::written_status(written)
 }
 
 // ---- one record
@@ -140,7 +130,7 @@ pub extern "C" fn rig_rotation_limit_write(row: &[u32; 49], out: &mut [u8]) -> u
     ensures buffer { out.new
         ≡ left_in (rotation_written (length out.old) (rotation_row row.now)) out.old }
 {
-    written_status(Rotation::write(row, out))
+    rig_answers::written_status(Rotation::write(row, out))
 }
 
 // The same of translation limits.
@@ -157,7 +147,7 @@ pub extern "C" fn rig_translation_limit_write(row: &[u32; 16], out: &mut [u8]) -
     ensures buffer { out.new
         ≡ left_in (translation_written (length out.old) (translation_row row.now)) out.old }
 {
-    written_status(Translation::write(row, out))
+    rig_answers::written_status(Translation::write(row, out))
 }
 
 // The row of a fresh rotation limit.
