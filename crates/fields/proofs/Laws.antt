@@ -7,18 +7,17 @@ use mathlib.Core.Path.{◌≡◌, refl, sym, ap, ◌∙◌}
 use mathlib.Core.Logic.{◌⊎◌, inl, inr, ⊎_elim}
 use mathlib.Core.Bool.{Bool, true, false}
 use mathlib.Core.List.{List}
-use Prim.Native.Nat.{ℕ, suc, ◌+◌, ◌-◌, ◌*◌, ◌^◌, ◌/◌, ◌%◌, ◌≤◌, ◌<◌}
-use native.Mathlib.Nat.{mod-eq_of_lt, mul_comm}
-use native.Mathlib.Numerals.{add-one}
+use Prim.Native.Nat.{ℕ, suc, ◌+◌, ◌-◌, ◌*◌, ◌^◌, ◌%◌, ◌≤◌, ◌<◌}
+use native.Mathlib.Nat.{mod-eq_of_lt}
 use native.Mathlib.Omega.{arith}
 use borrow.Author.Tests.{le-leb, lt-leb, leb-true, leb-false}
 use lib.Dec.{leb}
 use lib.ListN.{length, get_or, take, drop, length-drop}
 use lib.Seq.{sets, length-sets, drop-cons, drop-drop, take-add, get_or-drop, length-take-le}
 use Rattle.format.specs.Field.{value_of, field, bytes, stands, or_zero, field_at, which_list, put_at}
-use Rattle.format.proofs.Fields.{length-bytes, bytes-add, bytes-mod, pow_pos, value_of-append, value_of_lt, value_of-bytes, bytes-value_of}
+use Rattle.format.proofs.Fields.{length-bytes, pow_pos, value_of-append, value_of_lt, value_of-bytes, bytes-value_of}
 use borrow.Rule.Slice.PartMut.{put_mid}
-use Rattle.fields.proofs.Stores.{put_mid-sets, sets-append, part-sets-same, sets-part, part-sets-other}
+use Rattle.fields.proofs.Stores.{put_mid-sets, part-sets-same, sets-part, part-sets-other}
 
 -- ---- a field by its first byte, and by a lower and an upper one
 
@@ -31,28 +30,6 @@ pub field-add :
 field-add j k s at h =
     let l : length (take j (drop at s)) ≡ j = length-take-le j (drop at s) (simp length-drop (omega arith)) in
     simp (take-add, value_of-append, l, drop-drop)
-
-pub field_two : (s : List ℕ) (at : ℕ) → at + 2 ≤ length s → get_or s at 0 + get_or s (at + 1) 0 * 256 ≡ field 2 s at
-unfolding value_of
-field_two s at h = simp add-one (omega (arith, field-suc 1 s at (omega arith), field-suc 0 s (suc at) (omega arith)))
-
--- two fields of k bytes, one behind the other, are one of k + k
-pub load_halves :
-    (k : ℕ) (s : List ℕ) (at : ℕ) {x y : ℕ} →
-    at + k ≤ length s →
-    x ≡ field k s at →
-    y ≡ field k s (at + k) →
-    x + y * 256 ^ k ≡ field (k + k) s at
-load_halves k s at h ex ey = simp (ex, ey, mul_comm) (sym (field-add k k s at h))
-
--- two stores of k bytes, the lower and the upper half of a number, are one of k + k
-pub store-halves :
-    (k v : ℕ) (s : List ℕ) (at : ℕ) {x y : List ℕ} →
-    x ≡ sets s at (bytes k (v % 256 ^ k)) →
-    y ≡ sets x (at + k) (bytes k (v / 256 ^ k)) →
-    y ≡ sets s at (bytes (k + k) v)
-store-halves k v s at {x} {y} ex ey =
-    ey ∙ simp (ex, bytes-mod k v, bytes-add k k v, sets-append, length-bytes)
 
 -- ---- a field that stands, and one that does not
 
@@ -132,16 +109,6 @@ store_other k s at v j b apart =
     rw (put_at-stands k s at v l) (simp (length-sets, part-sets-other (bytes k v) s at j b (rw length-bytes apart))))
     (λ l. ap (λ (x : List ℕ). field_at j x b) (put_at_outside k s at v l))
     (le-or-lt (at + k) (length s))
-
--- ---- the test of whether a field stands
-
--- the code compares with what is left behind `at`, so that no sum can wrap
-pub stands-left : (k n at : ℕ) → at ≤ n → leb k (n - at) ≡ leb (at + k) n
-stands-left k n at h =
-    ⊎_elim
-    (λ (l : at + k ≤ n). le-leb k (n - at) (omega arith) ∙ sym (le-leb (at + k) n l))
-    (λ (l : n < at + k). lt-leb k (n - at) (omega arith) ∙ sym (lt-leb (at + k) n l))
-    (le-or-lt (at + k) n)
 
 -- ---- what the code finds, by the answer t of its test, where m and m' are the width as it reads it
 

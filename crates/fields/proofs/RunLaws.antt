@@ -300,9 +300,3 @@ pub copied-stands :
     copied n s from t to ≡ sets t to (take n (drop from s))
 unfolding which_list
 copied-stands n s from t to h l = rw (le-leb (from + n) (length s) h, le-leb (to + n) (length t) l) refl
-
--- all of a table
-pub copied-whole :
-    (n : ℕ) (s t : List ℕ) (to : ℕ) → length s ≡ n → to + n ≤ length t → copied n s 0 t to ≡ sets t to s
-copied-whole n s t to e l =
-    copied-stands n s 0 t to (omega (arith, e)) l ∙ ap (sets t to) (take_all n s (omega (arith, e)))

@@ -6,12 +6,12 @@ use mathlib.Core.List.{List, [], ◌∷◌, ◌++◌, append_assoc}
 use Prim.Native.Nat.{ℕ, zero, suc, ◌+◌, ◌-◌, ◌*◌, ◌^◌, ◌≤◌, ◌<◌}
 use native.Mathlib.Nat.{zero-add, mul-zero, mul-suc, mod-eq_of_lt}
 use native.Mathlib.Omega.{arith}
-use lib.ListN.{length, get_or, take, drop, set, length-append, length-set}
-use lib.Seq.{length-take-le, length-sets, drop-drop, take_at, drop_at, take-append-le, drop-append-le, take-nil, drop-nil}
-use lib.Seq.{take-take, sets, sets-eq}
+use lib.ListN.{length, get_or, take, drop, set}
+use lib.Seq.{drop-drop, take_at, drop_at, take-nil, drop-nil}
+use lib.Seq.{take-take, sets}
 use Rattle.format.specs.Field.{field, words, bytes, word_bytes}
 use Rattle.format.proofs.Fields.{length-bytes, value_of-bytes}
-use Rattle.fields.proofs.Stores.{sets-append}
+pub use Rattle.format.proofs.Fields.{length-words, length-word_bytes}
 
 -- ---- the words that bytes hold
 
@@ -19,11 +19,6 @@ pub drop-take : (i n : ℕ) (s : List ℕ) → drop i (take (i + n) s) ≡ take 
 drop-take zero n s = simp zero-add
 drop-take (suc i) n [] = simp (take-nil, drop-nil)
 drop-take (suc i) n (x ∷ s) = let e : suc i + n ≡ suc (i + n) = omega arith in rw e (drop-take i n s)
-
-pub length-words : (k m : ℕ) (s : List ℕ) → length (words k m s) ≡ m
-unfolding words
-length-words k zero s = refl
-length-words k (suc m) s = ap suc (length-words k m (drop k s))
 
 -- m words and then n
 pub words-add : (k m n : ℕ) (s : List ℕ) → words k (m + n) s ≡ words k m s ++ words k n (drop (k * m) s)
@@ -78,12 +73,6 @@ words-cut k m s at = let e : at + k * m - at ≡ k * m = omega arith in rw e (wo
 
 -- ---- the bytes of words
 
-pub length-word_bytes : (k : ℕ) (ws : List ℕ) → length (word_bytes k ws) ≡ k * length ws
-unfolding word_bytes
-length-word_bytes k [] = sym (mul-zero k)
-length-word_bytes k (w ∷ ws) = length-append (bytes k w) (word_bytes k ws) ∙ simp (length-bytes, length-word_bytes k ws, mul-suc)
-    (omega arith)
-
 pub word_bytes-append : (k : ℕ) (a b : List ℕ) → word_bytes k (a ++ b) ≡ word_bytes k a ++ word_bytes k b
 unfolding word_bytes
 word_bytes-append k [] b = refl
@@ -103,67 +92,6 @@ sets_behind [] a b i = refl
 sets_behind (v ∷ vs) a b i =
     let e : suc (length a + i) ≡ length a + suc i = omega arith in
     rw (set-behind a b i v, e) (sets_behind vs a (set b i v) (suc i))
-
-sets-behind-at : (vs a b : List ℕ) (at i : ℕ) → length a ≡ at → sets (a ++ b) (at + i) vs ≡ a ++ sets b i vs
-sets-behind-at vs a b at i e = rw (← e) (sets_behind vs a b i)
-
-pub sets-before : (vs a b : List ℕ) (i : ℕ) → i + length vs ≤ length a → sets (a ++ b) i vs ≡ sets a i vs ++ b
-sets-before vs a b i h =
-    sets-eq vs (a ++ b) i (rw length-append (omega arith))
-    ∙ (simp (take-append-le i a b (omega arith), drop-append-le (i + length vs) a b h, append_assoc))
-    ∙ ap (λ (l : List ℕ). l ++ b) (sym (sets-eq vs a i h))
-
-sets_over : (vs a b : List ℕ) → length vs ≡ length a → sets (a ++ b) 0 vs ≡ vs ++ b
-sets_over vs a b e =
-    let h : 0 + length vs ≤ length (a ++ b) = simp length-append (omega arith) in
-    let z : 0 + length vs ≡ length a = omega arith in
-    sets-eq vs (a ++ b) 0 h ∙ rw (z, drop_at a b (length a) refl)
-
--- stores into what was just stored
-pub sets-within :
-    (s x vs : List ℕ) (at j : ℕ) →
-    at + length x ≤ length s →
-    j + length vs ≤ length x →
-    sets (sets s at x) (at + j) vs ≡ sets s at (sets x j vs)
-sets-within s x vs at j h l =
-    let front : List ℕ = take at s in
-    let n : length front ≡ at = length-take-le at s (omega arith) in
-    let rest : List ℕ = drop (at + length x) s in
-    let a : sets s at x ≡ front ++ (x ++ rest) = sets-eq x s at h ∙ append_assoc front x rest in
-    let b : sets s at (sets x j vs) ≡ front ++ (sets x j vs ++ rest) =
-    sets-eq (sets x j vs) s at (rw length-sets h) ∙ simp (append_assoc, length-sets) in
-    rw (a, b) (sets-behind-at vs front (x ++ rest) at j n ∙ rw (sets-before vs x rest j l))
-
-word_bytes-set : (k : ℕ) (w : List ℕ) (i v : ℕ) → i < length w → word_bytes k (set w i v) ≡ sets (word_bytes k w) (k * i) (bytes k v)
-unfolding word_bytes
-word_bytes-set k [] i v h = absurd (omega arith)
-word_bytes-set k (x ∷ w) zero v h =
-    let l : length (bytes k v) ≡ length (bytes k x) = length-bytes k v ∙ sym (length-bytes k x) in
-    simp mul-zero (sym (sets_over (bytes k v) (bytes k x) (word_bytes k w) l))
-word_bytes-set k (x ∷ w) (suc i) v h =
-    let e : k * suc i ≡ k + k * i = simp mul-suc (omega arith) in
-    simp (
-      e,
-      sets-behind-at (bytes k v) (bytes k x) (word_bytes k w) k (k * i) (length-bytes k x),
-      word_bytes-set k w i v
-          (omega arith),
-    )
-
-pub word_bytes-sets :
-    (k : ℕ) (vs w : List ℕ) (i : ℕ) →
-    i + length vs ≤ length w →
-    word_bytes k (sets w i vs) ≡ sets (word_bytes k w) (k * i) (word_bytes k vs)
-unfolding word_bytes
-word_bytes-sets k [] w i h = refl
-word_bytes-sets k (v ∷ vs) w i h =
-    let e : k * suc i ≡ k * i + k = simp mul-suc (omega arith) in
-    word_bytes-sets k vs (set w i v) (suc i) (simp length-set (omega arith))
-    ∙ simp (
-      word_bytes-set k w i v (omega arith),
-      e,
-      sets-append (bytes k v) (word_bytes k vs) (word_bytes k w) (k * i),
-      length-bytes,
-    )
 
 -- ---- from words to bytes and back
 

@@ -8,7 +8,7 @@ ghost use Rattle.std.proofs.lemmas.List.{map-id};
 pub trait Pod: Copy {
     ghost SIZE: { ℕ };
 
-    // the value of a number and the number of a value, for one and for each of a list
+    // The value of a number and the number of a value, for one and for each of a list. At the unsigned numbers each is the identity.
     ghost value: { ℕ → Self };
 
     ghost number: { Self → ℕ };

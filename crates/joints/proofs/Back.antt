@@ -3,25 +3,24 @@
 use mathlib.Core.Path.{◌≡◌, refl, sym, ap, ◌∙◌}
 use Rattle.std.specs.Prelude.{Some}
 use mathlib.Core.List.{List, [], ◌∷◌, ◌++◌, map, flat_map, append-nil, append_assoc}
-use Prim.Native.Nat.{ℕ, suc, ◌+◌, ◌*◌, ◌/◌, ◌%◌, ◌^◌, ◌≤◌, ◌<◌}
-use native.Mathlib.Nat.{mul-zero, mul-suc, mul_assoc, mod-eq_of_lt}
+use Prim.Native.Nat.{ℕ, zero, suc, ◌+◌, ◌-◌, ◌*◌, ◌/◌, ◌%◌, ◌^◌, ◌≤◌, ◌<◌}
+use native.Mathlib.Nat.{mul-zero, mul-suc, mul_assoc, mul-le-mul_right, mod-eq_of_lt}
 use native.Mathlib.Omega.{arith}
 use borrow.Author.Tests.{le-leb}
 use lib.ListN.{length, take, drop, length-append}
-use lib.Seq.{take_at, drop_at}
+use lib.Seq.{take_at, drop_at, drop-drop, take-take}
 use Rattle.format.specs.Result.{Res, done, ◌>>=◌}
 use Rattle.format.specs.Field.{field, bytes, words, word_bytes, Item, ◌⊳◌, lay}
-use Rattle.format.specs.Section.{Section, window, spot, part}
+use Rattle.format.specs.Section.{Section, window, spot, part, array}
 use Rattle.format.specs.Layout.{base, pointer}
 use Rattle.format.specs.Joints.{RotationLimit, rotation_slots, rotation_limit, TranslationLimit, translation_slots, translation_limit}
 use Rattle.format.specs.Joints.{joints_items, joints_layout, limit_rows, limits, mapped, read_joints}
 use Rattle.format.proofs.Fields.{length-bytes, value_of-bytes}
-use Rattle.joints.specs.Reading.{record_of, records_taken, lists_read}
+use Rattle.joints.specs.Reading.{record_of, lists_read}
 use Rattle.joints.specs.OneWidth.{standing, joints_of}
-use Rattle.fields.proofs.WordLists.{Fit, length-word_bytes, words-word_bytes}
-use Rattle.joints.proofs.Finding.{field-part, bytes-some, limits_absent, limits-taken}
+use Rattle.fields.proofs.WordLists.{Fit, length-word_bytes, words-word_bytes, words_take, drop-take}
+use Rattle.joints.proofs.Reading.{limits_absent, limits_stand, read_found}
 use Rattle.joints.proofs.Laying.{pointer_lt, length-header}
-use Rattle.joints.proofs.Lists.{read_found}
 
 -- ---- bytes in the system half
 
@@ -33,6 +32,24 @@ part-system sec o n h l =
     let d : (base + o) / window ≡ 5 = omega arith in
     let m : (base + o) % window ≡ o = omega arith in
     simp (d, m, le-leb (o + n) (length sec.system) l)
+
+array-part : (sec : Section) (va n : ℕ) → (n ≡ 0 → ⊥) → array sec va n ≡ part sec va n
+unfolding array
+array-part sec va zero h = absurd (h refl)
+array-part sec va (suc n) h = refl
+
+-- the bytes of some limits are some
+bytes-some : (k n : ℕ) → 3 ≤ k → (n ≡ 0 → ⊥) → 4 * k * n ≡ 0 → ⊥
+bytes-some k n h l e =
+    let a : 12 * n ≤ 4 * k * n = mul-le-mul_right n (omega arith) in
+    omega arith
+
+-- a field inside a part is the field of the whole
+field-part : (k n j at : ℕ) (s : List ℕ) → j + k ≤ n → field k (take n (drop at s)) j ≡ field k s (at + j)
+field-part k n j at s h =
+    let e : j + (n - j) ≡ n = omega arith in
+    let d : drop j (take n (drop at s)) ≡ take (n - j) (drop j (drop at s)) = rw e at (drop-take j (n - j) (drop at s)) in
+    rw (d, take-take k (n - j) (drop j (drop at s)) (omega arith), drop-drop)
 
 -- ---- fields of a laid record
 
@@ -95,17 +112,6 @@ module _ {L : Type 0} (slots : L → List ℕ) (limit : List ℕ → L) (k : ℕ
       all_back [] f = refl
       all_back (l ∷ ls) f = simp (f.1.1.0, all_back ls f.1.1.1)
 
-  taken_back :
-      (room : ℕ) (ls : List L) (rest : List ℕ) →
-      EachBack ls →
-      length ls ≤ room →
-      records_taken room k (length ls) (word_bytes 4 (flat_map slots ls) ++ rest) ≡ done (Some (map slots ls))
-  unfolding records_taken
-  taken_back room ls rest f h =
-      let w : words 4 (k * length ls) (word_bytes 4 (flat_map slots ls) ++ rest) ≡ flat_map slots ls =
-      rw (← length_slots ls f) (words-word_bytes 4 (flat_map slots ls) rest (fit_slots ls f)) in
-      rw (le-leb (length ls) room h, w, rows_slots ls f) refl
-
   -- the list laid behind `front`
   limits_back_lem :
       (front : List ℕ) (ls : List L) (rest gfx : List ℕ) (room o : ℕ) →
@@ -129,8 +135,14 @@ module _ {L : Type 0} (slots : L → List ℕ) (limit : List ℕ → L) (k : ℕ
       let all : length (front ++ (own ++ rest)) ≡ o + (4 * (k * n) + length rest) = simp (length-append, e, size) in
       let fits : o + 4 * k * n ≤ length (front ++ (own ++ rest)) = rw (mul_assoc 4 k n) (omega arith) in
       let p = part-system sec o (4 * k * n) l fits in
-      limits-taken sec room k (base + o) n (omega arith) (bytes-some k n m (omega arith)) (front ++ (own ++ rest)) o p
-      ∙ rw (drop_at front (own ++ rest) o e) (taken_back room (x ∷ ls) rest f h)
+      let a : array sec (base + o) (4 * k * n) ≡ done (take (4 * k * n) (own ++ rest)) =
+      array-part sec (base + o) (4 * k * n) (bytes-some k n m (omega arith)) ∙ p
+      ∙ ap (λ (s : List ℕ). done (take (4 * k * n) s)) (drop_at front (own ++ rest) o e) in
+      let w₁ : words 4 (k * n) (take (4 * k * n) (own ++ rest)) ≡ words 4 (k * n) (own ++ rest) =
+      rw (mul_assoc 4 k n) (words_take 4 (k * n) (own ++ rest)) in
+      let w₂ : words 4 (k * n) (own ++ rest) ≡ flat_map slots (x ∷ ls) =
+      rw (← length_slots (x ∷ ls) f) (words-word_bytes 4 (flat_map slots (x ∷ ls)) rest (fit_slots (x ∷ ls) f)) in
+      limits_stand sec room k (base + o) n (omega arith) ∙ rw (a, le-leb n room h, w₁, w₂, rows_slots (x ∷ ls) f) refl
 
 -- ---- the record
 
@@ -247,7 +259,7 @@ module _
         let found = part-system whole 0 52 (omega arith) (omega arith) in
         let fields = ap (λ (s : List ℕ). record_of (take 52 s)) laid_in ∙ header-back (length rs) (length ts) few_r few-t
         (rotations ++ translations) in
-        read_found whole rroom troom base (omega arith) base refl
+        read_found whole rroom troom base (omega arith)
         ∙ ap (λ (g : Res (List ℕ)). g >>= λ b. lists_read whole rroom troom (record_of b)) found
         ∙ ap (lists_read whole rroom troom) fields
         ∙ lists_back

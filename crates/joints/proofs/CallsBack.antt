@@ -3,7 +3,9 @@
 use mathlib.Core.Path.{◌≡◌, refl, sym, ap, ◌∙◌}
 use mathlib.Core.Bool.{Bool, true, false, ◌&&◌}
 use mathlib.Core.Logic.{◌⊎◌, inl, inr}
-use Rattle.std.specs.Prelude.{Some}
+use Rattle.std.specs.Prelude.{Some, Result, Ok, Err}
+use Rattle.format.specs.Refusal.{outcome}
+use Rattle.format.specs.declared.Refusal.{Refusal}
 use mathlib.Core.List.{List, [], ◌∷◌, ◌++◌}
 use Prim.Native.Nat.{ℕ, zero, suc, ◌+◌, ◌*◌, ◌/◌, ◌^◌, ◌≤◌, ◌<◌}
 use native.Mathlib.Nat.{mul_comm, le-div_iff_mul-le}
@@ -25,16 +27,11 @@ use Rattle.fields.proofs.Laws.{le-or-lt}
 use Rattle.fields.proofs.WordLists.{Fit, length-words}
 use Rattle.tables.specs.Outcome.{size_of}
 use Rattle.joints.specs.Reading.{whether, table_read}
-use Rattle.joints.specs.Written.{rotations_of, translations_of, table_written, meant_record_written, left_in}
+use Rattle.joints.specs.Written.{rotations_of, translations_of, table_written, left_in}
 use Rattle.joints.specs.OneWidth.{GoodRotation, joints_of}
-use Rattle.joints.specs.declared.limits.LimitKind.TheVariants.{Rotation, Translation}
-use Rattle.joints.specs.declared.limits.RecordWritten.{RecordWritten}
-use Rattle.joints.specs.declared.limits.RecordWritten.TheVariants.{Done, Refused}
-use Rattle.joints.proofs.Row.{length_part}
-use Rattle.joints.proofs.BothKinds.{length-slots_in, length-rotations_of, length-translations_of}
-use Rattle.joints.proofs.OneRecord.{front-left}
-use Rattle.joints.proofs.Laying.{length-layout, many_rotations, many_translations, short-rotations, short-translations}
-use Rattle.joints.proofs.Laying.{wide_id_lem, short-buffer, all-written}
+use Rattle.joints.proofs.BothKinds.{length_part, rotation_size, translation_size}
+use Rattle.joints.proofs.Chunks.{length-rotations_of, length-translations_of}
+use Rattle.joints.proofs.Laying.{length-layout, many_limits, short_rotations, short_translations, wide_id, short_buffer, all_written}
 use Rattle.joints.proofs.Codecs.{rotation-store-load, translation-store-load, rotation-load-store, translation-load-store}
 use Rattle.joints.proofs.Back.{fit_append, EachBack, joints_back}
 
@@ -113,7 +110,7 @@ rotations-back (suc n) t h f e =
     let w : List ℕ = take 49 t in
     let size : length w ≡ 49 = length-take-le 49 t (omega arith) in
     let ids = and-true (leb (get_or w 0 0) 65535) (ids_fit (rotations_of n (drop 49 t))) e in (
-      length-slots_in Rotation w (omega arith),
+      rotation_size w (omega arith),
       (
         rotation-fits w (fit-take 49 t f),
         (
@@ -130,7 +127,7 @@ translations-back zero t h f = tt
 translations-back (suc n) t h f =
     let w : List ℕ = take 16 t in
     let size : length w ≡ 16 = length-take-le 16 t (omega arith) in (
-      length-slots_in Translation w (omega arith),
+      translation_size w (omega arith),
       (
         translation-fits w (fit-take 16 t f),
         (
@@ -154,18 +151,18 @@ words-bytes (suc m) b e f =
     let rest = words-bytes m (drop 4 b) (simp length-drop (omega arith)) g in
     (rw (t, rest.0) (take-append-drop 4 b), (value_of_lt 4 b f, rest.1))
 
-record_done : (a : RecordWritten) → meant_record_written a ≡ done tt → a ≡ Done
-record_done Done e = refl
-record_done (Refused r) e = absurd (done_apart (sym e))
+record_done : (a : Result (Unit {0}) Refusal) → outcome a ≡ done tt → a ≡ Ok tt
+record_done (Ok u) e = refl
+record_done (Err r) e = absurd (done_apart (sym e))
 
 -- a record written as the bytes b
 pub record_left :
-    (b out : List ℕ) (n : ℕ) {out' : List ℕ} {a : RecordWritten} {g : Res (List ℕ)} →
+    (b out : List ℕ) (n : ℕ) {out' : List ℕ} {a : Result (Unit {0}) Refusal} {g : Res (List ℕ)} →
     length b ≡ n →
     g ≡ done b →
-    meant_record_written a ≡ whether g →
+    outcome a ≡ whether g →
     out' ≡ left_in g out →
-    (a ≡ Done) × (out' ≡ b ++ drop n out)
+    (a ≡ Ok tt) × (out' ≡ b ++ drop n out)
 record_left b out n {out'} {a} e h m o = (record_done a (m ∙ ap whether h), o ∙ ap (λ (g : Res (List ℕ)). left_in g out) h ∙ rw e refl)
 
 pub rotation-read-written :
@@ -215,18 +212,18 @@ module _ (rotation : List ℕ) (r : ℕ) (translation : List ℕ) (t : ℕ) (out
       (49 * r ≤ length rotation) ⊎ (length rotation < 49 * r) → (16 * t ≤ length translation) ⊎ (length translation < 16 * t) →
       (q : Bool) → ids_fit (rotations_of r rotation) ≡ q → (64 + 192 * r + 64 * t ≤ length out) ⊎ (length out < 64 + 192 * r + 64 * t) →
       Passed n
-  passed n e (inr h) b c d q i s = absurd (done_apart (e ∙ sym (many_rotations rotation r translation t out h).0))
-  passed n e (inl a) (inr h) c d q i s = absurd (done_apart (e ∙ sym (many_translations rotation r translation t out a h).0))
+  passed n e (inr h) b c d q i s = absurd (done_apart (e ∙ sym (many_limits rotation r translation t out (inl h)).0))
+  passed n e (inl a) (inr h) c d q i s = absurd (done_apart (e ∙ sym (many_limits rotation r translation t out (inr (a, h))).0))
   passed n e (inl a) (inl b) (inr h) d q i s =
-      absurd (done_apart (e ∙ sym (short-rotations rotation r translation t out a b h).0))
+      absurd (done_apart (e ∙ sym (short_rotations rotation r translation t out a b h).0))
   passed n e (inl a) (inl b) (inl c) (inr h) q i s =
-      absurd (done_apart (e ∙ sym (short-translations rotation r translation t out a b c h).0))
+      absurd (done_apart (e ∙ sym (short_translations rotation r translation t out a b c h).0))
   passed n e (inl a) (inl b) (inl c) (inl d) false i s =
-      absurd (done_apart (e ∙ sym (wide_id_lem rotation r translation t out a b c d i).0))
+      absurd (done_apart (e ∙ sym (wide_id rotation r translation t out a b c d i).0))
   passed n e (inl a) (inl b) (inl c) (inl d) true i (inr h) =
-      absurd (done_apart (e ∙ sym (short-buffer rotation r translation t out a b c d i h).0))
+      absurd (done_apart (e ∙ sym (short_buffer rotation r translation t out a b c d i h).0))
   passed n e (inl a) (inl b) (inl c) (inl d) true i (inl h) =
-      let w = all-written rotation r translation t out a b c d i h refl in
+      let w = all_written rotation r translation t out a b c d i h in
       let z = length-layout rotation r translation t c d in
       let m : n ≡ 64 + 192 * r + 64 * t = cc (e ∙ sym w.0) in
       record {
@@ -236,7 +233,7 @@ module _ (rotation : List ℕ) (r : ℕ) (translation : List ℕ) (t : ℕ) (out
         rows-t = d;
         ids = i;
         size = m ∙ sym z;
-        left = sym w.1 ∙ front-left laid_out out (omega arith) refl ∙ rw (z, m) refl;
+        left = sym w.1 ∙ rw m refl;
       }
 
   pub passed-all : (n : ℕ) → done n ≡ size_of wrote → Passed n

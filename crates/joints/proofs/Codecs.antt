@@ -13,7 +13,7 @@ use Rattle.format.specs.Joints.{RotationLimit, rotation_slots, rotation_limit, r
 use Rattle.format.specs.Joints.{TranslationLimit, translation_slots, translation_limit, translation_words, translation_row}
 use Rattle.format.specs.Joints.{placed, others}
 use Rattle.joints.specs.OneWidth.{GoodRotation, GoodTranslation}
-use Rattle.joints.proofs.Row.{three_at_lem, length_part}
+use Rattle.joints.proofs.BothKinds.{three_at_lem, length_part}
 
 -- ---- the others among the named fields
 

@@ -1,33 +1,30 @@
--- The written section by its parts (docs/FORMAT.md, "Joints and names"). In order: the record as words; its size and the section's;
--- the
--- stores that lay it; the ways out of `write`. Assumes nothing.
+-- The written section by its parts (docs/FORMAT.md, "Joints and names"). In order: the record as words; rows of a table; ids; the section; the
+-- ways out of `write`. Assumes nothing.
 use mathlib.Core.Path.{◌≡◌, refl, sym, ap, ◌∙◌}
-use mathlib.Core.Bool.{true, false}
-use mathlib.Core.List.{List, [], ◌∷◌, ◌++◌, flat_map, append_assoc}
+use mathlib.Core.Bool.{Bool, true, false, ◌&&◌}
+use mathlib.Core.List.{List, [], ◌∷◌, ◌++◌, map, flat_map, append_assoc}
 use Prim.Native.Nat.{ℕ, zero, suc, ◌+◌, ◌*◌, ◌/◌, ◌%◌, ◌^◌, ◌≤◌, ◌<◌}
-use native.Mathlib.Nat.{zero-add, mod-eq_of_lt, div-eq_of_lt, add-mul-mod_self_left, add-mul-div_left}
+use native.Mathlib.Nat.{zero-add, mul_comm, mul-zero, mul-suc, mod-eq_of_lt, div-eq_of_lt, add-mul-mod_self_left, add-mul-div_left}
+use native.Mathlib.Nat.{le-div_iff_mul-le, div-lt_iff_lt-mul}
 use native.Mathlib.Omega.{arith}
-use borrow.Author.Tests.{le-leb, lt-leb}
+use mathlib.Core.Logic.{◌⊎◌, inl, inr}
+use borrow.Author.Tests.{le-leb, lt-leb, leb-true, leb-false}
 use lib.Dec.{leb}
-use lib.ListN.{length, take, length-append}
-use lib.Seq.{sets, sets-eq, take_all}
-use Rattle.format.specs.Result.{Res, done, ◌>>=◌, need}
+use lib.ListN.{length, get_or, take, drop, length-append, length-drop, length-map}
+use lib.Seq.{length-take-le}
+use Rattle.std.specs.List.{list_all}
+use Rattle.std.specs.Simd.{first_chunks}
+use Rattle.format.specs.Result.{Res, refused, done, ◌>>=◌, need}
 use Rattle.format.specs.Field.{bytes, word_bytes, lay}
 use Rattle.format.specs.Layout.{pointer}
+use Rattle.format.specs.Joints.{rotation_slots, rotation_row, translation_slots, translation_row}
 use Rattle.format.specs.Joints.{ids_fit, joints_items, joints_layout, joints_written, limit_rows}
-use Rattle.format.specs.declared.Refusal.TheVariants.{TableTooShort, BufferTooShort, TooManyLimits, BadLimitId}
 use Rattle.format.proofs.Fields.{length-bytes, bytes-add, bytes-mod, pow_pos}
-use Rattle.fields.proofs.Stores.{sets-append}
-use Rattle.joints.specs.declared.write.JointsWritten.{JointsWritten}
-use Rattle.joints.specs.declared.write.JointsWritten.TheVariants.{Done, Refused}
-use Rattle.joints.specs.Limit.{slots_in, record_slots}
-use Rattle.joints.specs.declared.limits.LimitKind.TheVariants.{Rotation, Translation}
-use Rattle.joints.specs.Written.{rotations_of, translations_of, table_written, meant_written, left_in}
-use Rattle.tables.specs.Outcome.{size_of}
 use Rattle.fields.proofs.WordLists.{length-word_bytes}
-use Rattle.joints.proofs.RowLists.{length_made}
-use Rattle.joints.proofs.BothKinds.{length-slots_in, length-rotations_of, length-translations_of, rotation-records}
-use Rattle.joints.proofs.BothKinds.{translation-records}
+use Rattle.tables.specs.Outcome.{size_of}
+use Rattle.joints.specs.Written.{rotations_of, translations_of, rows_got, table_written, left_in}
+use Rattle.joints.proofs.BothKinds.{rotation_size, translation_size}
+use Rattle.joints.proofs.Chunks.{chunks-rows, length-rotations_of, length-translations_of, flat_map-map}
 
 -- ---- the record as words
 
@@ -47,16 +44,6 @@ pub pointer_lt : (m at n : ℕ) → at < m → pointer at n < m
 unfolding pointer
 pointer_lt m at zero h = omega arith
 pointer_lt m at (suc n) h = h
-
--- the pointer by the code's test
-pub pointer_none : (at : ℕ) {n : ℕ} → n ≡ 0 → 0 ≡ pointer at n
-unfolding pointer
-pointer_none at e = rw e refl
-
-pub pointer-some : (at n : ℕ) → (n ≡ 0 → ⊥) → at ≡ pointer at n
-unfolding pointer
-pointer-some at zero h = absurd (h refl)
-pointer-some at (suc n) h = refl
 
 pub header-bytes :
     (r t : ℕ) {p q : ℕ} →
@@ -82,145 +69,160 @@ header-bytes r t {p} {q} hr ht ep eq =
       append_assoc,
     )
 
--- ---- sizes
-
 pub length-header : (r t : ℕ) → length (lay (joints_items r t)) ≡ 64
 unfolding lay joints_items
 length-header r t = simp (length-append, length-bytes)
 
-module _ (rotation : List ℕ) (r : ℕ) (translation : List ℕ) (t : ℕ) where
-  layout : List ℕ
-  layout = joints_layout (rotations_of r rotation) (translations_of t translation)
+-- ---- rows of a table
 
-  -- the section is the record, then the records of the rows of the two tables
-  layout_parts :
-      layout
-      ≡ lay (joints_items r t) ++ (word_bytes 4 (record_slots Rotation r rotation) ++ word_bytes 4
-      (record_slots Translation t translation))
-  unfolding layout joints_layout
-  layout_parts = simp (length-rotations_of, length-translations_of, rotation-records, translation-records, append_assoc)
+module _ (w n : ℕ) (t : List ℕ) (some : 0 < w) where
+  -- the code's test of the room in a table, by rows of w
+  pub rows_short : length t / w < n → refused 1 ≡ rows_got w n t
+  unfolding rows_got
+  rows_short h =
+      let s : length t < n * w = (div-lt_iff_lt-mul some).0 h in
+      let l : leb (w * n) (length t) ≡ false = lt-leb (w * n) (length t) (rw (mul_comm w n) s) in
+      rw l refl
 
-  module _ (hr : 49 * r ≤ length rotation) (ht : 16 * t ≤ length translation) where
-    length-rotations : length (word_bytes 4 (record_slots Rotation r rotation)) ≡ 192 * r
-    unfolding record_slots
-    length-rotations =
-        length-word_bytes 4 (flat_map (slots_in Rotation) (limit_rows 49 r rotation))
-        ∙ simp (length_made (slots_in Rotation) 49 48 r rotation (λ x e. length-slots_in Rotation x (omega arith)) hr)
-        (omega arith)
+  pub rows_first : n ≤ length t / w → done (take n (first_chunks w (length t / w) t)) ≡ rows_got w n t
+  unfolding rows_got
+  rows_first h =
+      let s : n * w ≤ length t = (le-div_iff_mul-le some).0 h in
+      let l : leb (w * n) (length t) ≡ true = le-leb (w * n) (length t) (rw (mul_comm w n) s) in
+      rw l (ap done (chunks-rows w n (length t / w) t h))
 
-    length-translations : length (word_bytes 4 (record_slots Translation t translation)) ≡ 64 * t
-    unfolding record_slots
-    length-translations =
-        length-word_bytes 4 (flat_map (slots_in Translation) (limit_rows 16 t translation))
-        ∙ simp (length_made (slots_in Translation) 16 16 t translation (λ x e. length-slots_in Translation x (omega arith)) ht)
-        (omega arith)
+-- ---- ids
 
-    pub length-layout : length (joints_layout (rotations_of r rotation) (translations_of t translation)) ≡ 64 + 192 * r + 64 * t
-    unfolding layout
-    length-layout =
-        ap length layout_parts ∙ simp (length-append, length-header, length-rotations, length-translations) (omega arith)
+pub ids_all : (rows : List (List ℕ)) → list_all (λ w. leb (get_or w 0 0) 65535) rows ≡ ids_fit (map rotation_row rows)
+unfolding ids_fit
+ids_all [] = refl
+ids_all (w ∷ rows) = ap (λ (q : Bool). leb (get_or w 0 0) 65535 && q) (ids_all rows)
 
-    -- ---- the stores that lay it
+-- ---- the section
 
-    pub layout-stored :
-        (d : List ℕ) (head : List ℕ) {d₁ d₂ d₃ : List ℕ} →
-        length head ≡ 16 →
-        word_bytes 4 head ≡ lay (joints_items r t) →
-        d₁ ≡ sets d 0 (word_bytes 4 (take 16 head)) →
-        d₂ ≡ sets d₁ 64 (word_bytes 4 (record_slots Rotation r rotation)) →
-        d₃ ≡ sets d₂ (64 + 192 * r) (word_bytes 4 (record_slots Translation t translation)) →
-        d₃ ≡ sets d 0 (joints_layout (rotations_of r rotation) (translations_of t translation))
-    unfolding layout
-    layout-stored d head {d₁} {d₂} {d₃} n h e₁ e₂ e₃ =
-        let whole : take 16 head ≡ head = take_all 16 head (omega arith) in
-        let a : List ℕ = lay (joints_items r t) in
-        let b : List ℕ = word_bytes 4 (record_slots Rotation r rotation) in
-        let c : List ℕ = word_bytes 4 (record_slots Translation t translation) in
-        let one : sets d 0 (a ++ (b ++ c)) ≡ sets (sets d 0 a) 64 (b ++ c) =
-        sets-append a (b ++ c) d 0 ∙ simp (length-header, zero-add) in
-        let two : sets (sets d 0 a) 64 (b ++ c) ≡ sets (sets (sets d 0 a) 64 b) (64 + 192 * r) c =
-        sets-append b c (sets d 0 a) 64 ∙ simp length-rotations in
-        e₃ ∙ simp (e₂, e₁, whole, h) (sym (ap (sets d 0) layout_parts ∙ one ∙ two))
+pub section_laid :
+    (r t : List (List ℕ)) {h a b : List ℕ} →
+    h ≡ lay (joints_items (length r) (length t)) →
+    a ≡ word_bytes 4 (flat_map (λ w. rotation_slots (rotation_row w)) r) →
+    b ≡ word_bytes 4 (flat_map (λ w. translation_slots (translation_row w)) t) →
+    h ++ (a ++ b) ≡ joints_layout (map rotation_row r) (map translation_row t)
+unfolding joints_layout
+section_laid r t eh ea eb =
+    let fr = flat_map-map rotation_slots rotation_row (λ w. rotation_slots (rotation_row w)) (λ w. refl) r in
+    let ft = flat_map-map translation_slots translation_row (λ w. translation_slots (translation_row w)) (λ w. refl) t in
+    simp (eh, ea, eb, fr, ft, length-map, append_assoc)
+
+made_size :
+    (f : List ℕ → List ℕ) (k m n : ℕ) (w : List ℕ) →
+    ((x : List ℕ) → length x ≡ k → length (f x) ≡ m) →
+    k * n ≤ length w →
+    length (flat_map f (limit_rows k n w)) ≡ m * n
+unfolding flat_map limit_rows
+made_size f k m zero w each h = sym (mul-zero m)
+made_size f k m (suc n) w each h =
+    let e : k * suc n ≡ k + k * n = simp mul-suc (omega arith) in
+    let one : length (f (take k w)) ≡ m = each (take k w) (length-take-le k w (omega arith)) in
+    let rest = made_size f k m n (drop k w) each (simp length-drop (omega arith)) in
+    simp (length-append, one, rest, mul-suc) (omega arith)
 
 -- ---- the ways out of `write`
 
+module _ (rotation : List ℕ) (r : ℕ) (translation : List ℕ) (t : ℕ) where
+  abbrev layout : List ℕ
+  layout = joints_layout (rotations_of r rotation) (translations_of t translation)
+
+  pub length-layout : 49 * r ≤ length rotation → 16 * t ≤ length translation → length layout ≡ 64 + 192 * r + 64 * t
+  unfolding joints_layout
+  length-layout hr ht =
+      let fr = flat_map-map rotation_slots rotation_row (λ w. rotation_slots (rotation_row w)) (λ w. refl) (limit_rows 49 r rotation) in
+      let ft =
+      flat_map-map translation_slots translation_row (λ w. translation_slots (translation_row w)) (λ w. refl) (limit_rows 16 t translation) in
+      let nr =
+      made_size (λ w. rotation_slots (rotation_row w)) 49 48 r rotation (λ x e. rotation_size x (omega arith)) hr in
+      let nt =
+      made_size (λ w. translation_slots (translation_row w)) 16 16 t translation (λ x e. translation_size x (omega arith)) ht in
+      simp (length-append, length-header, length-word_bytes, fr, ft, nr, nt) (omega arith)
+
+-- what rows got tell
+got_by :
+    (w n : ℕ) (t : List ℕ) (q : Bool) {g : Res (List (List ℕ))} → g ≡ (need 1 q >>= λ u. done (limit_rows w n t)) →
+    ((x : ℕ) → g ≡ refused x → (q ≡ false) × (x ≡ 1)) × ((a : List (List ℕ)) → g ≡ done a → (q ≡ true) × (a ≡ limit_rows w n t))
+got_by w n t true e = (λ x f. let z : ◌≡◌ {A = ℕ} 0 1 = cc in absurd (omega arith), λ a f. (refl, cc))
+got_by w n t false e = (λ x f. (refl, cc), λ a f. let z : ◌≡◌ {A = ℕ} 0 1 = cc in absurd (omega arith))
+
+pub got_refused : (w n : ℕ) (t : List ℕ) {x : ℕ} → refused x ≡ rows_got w n t → (length t < w * n) × (x ≡ 1)
+unfolding rows_got
+got_refused w n t {x} e =
+    let b = (got_by w n t (leb (w * n) (length t)) {g = rows_got w n t} refl).0 x (sym e) in
+    (leb-false (w * n) (length t) b.0, b.1)
+
+pub got_done : (w n : ℕ) (t : List ℕ) {a : List (List ℕ)} → done a ≡ rows_got w n t → (w * n ≤ length t) × (a ≡ limit_rows w n t)
+unfolding rows_got
+got_done w n t {a} e =
+    let b = (got_by w n t (leb (w * n) (length t)) {g = rows_got w n t} refl).1 a (sym e) in
+    (leb-true (w * n) (length t) b.0, b.1)
+
 -- what `write` promises of its answer and of the buffer
-abbrev pub Writes : Res (List ℕ) → JointsWritten → List ℕ → List ℕ → Type 0
-Writes w a out₀ out = (meant_written a ≡ size_of w) × (out ≡ left_in w out₀)
+abbrev pub Writes : Res (List ℕ) → Res ℕ → List ℕ → List ℕ → Type 0
+Writes w a out₀ out = (a ≡ size_of w) × (out ≡ left_in w out₀)
 
 module _ (rotation : List ℕ) (r : ℕ) (translation : List ℕ) (t : ℕ) (out : List ℕ) where
-  pub many_rotations : 65535 < r → Writes (table_written (length out) rotation r translation t) (Refused TooManyLimits) out out
+  pub many_limits :
+      (65535 < r) ⊎ ((r ≤ 65535) × (65535 < t)) → Writes (table_written (length out) rotation r translation t) (refused 6) out out
   unfolding table_written
-  many_rotations h = rw (lt-leb r 65535 h) (refl, refl)
+  many_limits (inl h) = rw (lt-leb r 65535 h) (refl, refl)
+  many_limits (inr h) = rw (le-leb r 65535 h.0, lt-leb t 65535 h.1) (refl, refl)
 
-  module _ (hr : r ≤ 65535) where
-    pub many_translations :
-        65535 < t →
-        Writes (table_written (length out) rotation r translation t) (Refused TooManyLimits) out out
+  module _ (hr : r ≤ 65535) (ht : t ≤ 65535) where
+    pub short_rotations : length rotation < 49 * r → Writes (table_written (length out) rotation r translation t) (refused 1) out out
     unfolding table_written
-    many_translations h = rw (le-leb r 65535 hr, lt-leb t 65535 h) (refl, refl)
+    short_rotations h = rw (le-leb r 65535 hr, le-leb t 65535 ht, lt-leb (49 * r) (length rotation) h) (refl, refl)
 
-    module _ (ht : t ≤ 65535) where
-      pub short-rotations :
-          length rotation < 49 * r → Writes (table_written (length out) rotation r translation t) (Refused TableTooShort) out out
+    module _ (rr : 49 * r ≤ length rotation) where
+      pub short_translations :
+          length translation < 16 * t → Writes (table_written (length out) rotation r translation t) (refused 1) out out
       unfolding table_written
-      short-rotations h = rw (le-leb r 65535 hr, le-leb t 65535 ht, lt-leb (49 * r) (length rotation) h) (refl, refl)
+      short_translations h =
+          rw (
+            le-leb r 65535 hr,
+            le-leb t 65535 ht,
+            le-leb (49 * r) (length rotation) rr,
+            lt-leb (16 * t) (length translation) h,
+          ) (refl, refl)
 
-      module _ (rr : 49 * r ≤ length rotation) where
-        pub short-translations :
-            length translation < 16 * t → Writes (table_written (length out) rotation r translation t) (Refused TableTooShort)
-            out out
-        unfolding table_written
-        short-translations h =
-            rw (
+      module _ (rt : 16 * t ≤ length translation) where
+        size : length (layout rotation r translation t) ≡ 64 + 192 * r + 64 * t
+        size = length-layout rotation r translation t rr rt
+
+        passed :
+            (n : ℕ) →
+            table_written n rotation r translation t
+            ≡ (need 35 (ids_fit (rotations_of r rotation)) >>= λ u. need 5 (leb (64 + 192 * r + 64 * t) n) >>= λ v. done
+            (joints_layout (rotations_of r rotation) (translations_of t translation)))
+        unfolding table_written joints_written
+        passed n =
+            simp (
               le-leb r 65535 hr,
               le-leb t 65535 ht,
               le-leb (49 * r) (length rotation) rr,
-              lt-leb (16 * t) (length translation)
-                  h,
-            ) (refl, refl)
+              le-leb (16 * t) (length translation) rt,
+              length-rotations_of,
+              length-translations_of,
+              size,
+            )
 
-        module _ (rt : 16 * t ≤ length translation) where
-          size : length (joints_layout (rotations_of r rotation) (translations_of t translation)) ≡ 64 + 192 * r + 64 * t
-          size = length-layout rotation r translation t rr rt
+        pub wide_id :
+            ids_fit (rotations_of r rotation) ≡ false → Writes (table_written (length out) rotation r translation t) (refused 35) out out
+        wide_id e = rw (passed (length out), e) (refl, refl)
 
-          passed :
-              (n : ℕ) →
-              table_written n rotation r translation t
-              ≡ (need 35 (ids_fit (rotations_of r rotation)) >>= λ u. need 5 (leb (64 + 192 * r + 64 * t) n) >>= λ v. done
-              (joints_layout (rotations_of r rotation) (translations_of t translation)))
-          unfolding table_written joints_written
-          passed n =
-              simp (
-                le-leb r 65535 hr,
-                le-leb t 65535 ht,
-                le-leb (49 * r) (length rotation) rr,
-                le-leb (16 * t) (length translation)
-                    rt,
-                length-rotations_of,
-                length-translations_of,
-                size,
-              )
+        module _ (ids : ids_fit (rotations_of r rotation) ≡ true) where
+          pub short_buffer :
+              length out < 64 + 192 * r + 64 * t → Writes (table_written (length out) rotation r translation t) (refused 5) out out
+          short_buffer h = rw (passed (length out), ids, lt-leb (64 + 192 * r + 64 * t) (length out) h) (refl, refl)
 
-          pub wide_id_lem :
-              ids_fit (rotations_of r rotation) ≡ false →
-              Writes (table_written (length out) rotation r translation t) (Refused BadLimitId) out out
-          wide_id_lem e = rw (passed (length out), e) (refl, refl)
-
-          module _ (ids : ids_fit (rotations_of r rotation) ≡ true) where
-            pub short-buffer :
-                length out < 64 + 192 * r + 64 * t →
-                Writes (table_written (length out) rotation r translation t) (Refused BufferTooShort) out out
-            short-buffer h = rw (passed (length out), ids, lt-leb (64 + 192 * r + 64 * t) (length out) h) (refl, refl)
-
-            pub all-written :
-                {out' : List ℕ} →
-                64 + 192 * r + 64 * t ≤ length out →
-                out' ≡ sets out 0 (joints_layout (rotations_of r rotation) (translations_of t translation)) →
-                Writes (table_written (length out) rotation r translation t) (Done (64 + 192 * r + 64 * t)) out out'
-            all-written h e =
-                let b : List ℕ = joints_layout (rotations_of r rotation) (translations_of t translation) in
-                let fits : 0 + length b ≤ length out = omega (arith, size) in
-                let left = sets-eq b out 0 fits in
-                rw (passed (length out), ids, le-leb (64 + 192 * r + 64 * t) (length out) h)
-                (ap done (sym size), e ∙ rw zero-add at left)
+          pub all_written :
+              64 + 192 * r + 64 * t ≤ length out →
+              Writes (table_written (length out) rotation r translation t) (done (64 + 192 * r + 64 * t)) out
+              (joints_layout (rotations_of r rotation) (translations_of t translation) ++ drop (64 + 192 * r + 64 * t) out)
+          all_written h =
+              rw (passed (length out), ids, le-leb (64 + 192 * r + 64 * t) (length out) h) (ap done (sym size), rw size refl)

@@ -1,12 +1,9 @@
-pub mod Row
-pub mod RowLists
+pub mod Pieces
+pub mod Slots
+pub mod Chunks
 pub mod BothKinds
-pub mod RowLoops
-pub mod OneRecord
-pub mod Ids
+pub mod Reading
 pub mod Laying
-pub mod Finding
-pub mod Lists
 pub mod Codecs
 pub mod Back
 pub mod CallsBack

@@ -21,8 +21,8 @@ use Rattle.tables.specs.Outcome.{size_of}
 use Rattle.joints.specs.Reading.{whether}
 use Rattle.joints.specs.Written.{rotations_of, translations_of, table_written, left_in}
 use Rattle.joints.specs.OneWidth.{AnyOf, OneWidth, OneWidthCases}
-use Rattle.joints.proofs.BothKinds.{length-rotations_of, length-translations_of}
-use Rattle.joints.proofs.Lists.{rotation_back_lem, translation_back_lem}
+use Rattle.joints.proofs.Chunks.{length-rotations_of, length-translations_of}
+use Rattle.joints.proofs.BothKinds.{rotation_back_lem, translation_back_lem}
 use Rattle.joints.proofs.Codecs.{rotation-store-load, translation-store-load, rotation-load-store, translation-load-store}
 use Rattle.joints.proofs.Codecs.{rotation_row_back_lem, translation_row_back_lem}
 use Rattle.joints.proofs.CallsBack.{done_apart, fit_at, fit-each, record_left, rotation-read-written}

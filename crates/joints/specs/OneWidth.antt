@@ -1,8 +1,10 @@
 -- Request A7, "One width for limit ids" (docs/changes/A7.md): what was asked, of the definitions and of the calls. A call is taken by its
 -- contract: what it is lent, answers and leaves. `proofs/OneWidth.antt` proves it, with cases that each premise is needed. Definitions only.
 use Rattle.std.specs.Prelude.{◌≡◌, ◌↔◌, ◌⊎◌, List, [], ◌∷◌, ◌++◌, ℕ, ◌*◌, ◌^◌, ◌≤◌, ◌<◌, length, get_or, take, drop}
-use Rattle.std.specs.Prelude.{Option, None, Some}
+use Rattle.std.specs.Prelude.{Option, None, Some, Result, Ok}
 use Rattle.format.specs.Result.{refused, done}
+use Rattle.format.specs.Refusal.{outcome}
+use Rattle.format.specs.declared.Refusal.{Refusal}
 use Rattle.format.specs.Field.{Each, words, word_bytes}
 use Rattle.format.specs.Section.{Section}
 use Rattle.format.specs.Bone.{words3}
@@ -12,11 +14,7 @@ use Rattle.format.specs.Joints.{TranslationLimit, translation_slots, translation
 use Rattle.format.specs.Joints.{translation_row, translation_written, fresh_rotation_limit, joints_layout, joints_written, Joints, read_joints}
 use Rattle.tables.specs.Outcome.{size_of}
 use Rattle.joints.specs.Reading.{whether, table_read}
-use Rattle.joints.specs.Written.{rotations_of, translations_of, table_written, meant_written, meant_record_written, left_in}
-use Rattle.joints.specs.declared.limits.RecordWritten.{RecordWritten}
-use Rattle.joints.specs.declared.limits.RecordWritten.TheVariants.{Done}
-use Rattle.joints.specs.declared.write.JointsWritten.{JointsWritten}
-use Rattle.joints.specs.declared.write.JointsWritten.TheVariants.{Done as Written}
+use Rattle.joints.specs.Written.{rotations_of, translations_of, table_written, left_in}
 
 -- ---- what a limit must be
 
@@ -64,17 +62,17 @@ pub record OneWidth : Type 0 where
   pub translation_same :
       (w w' : List ℕ) → length w ≡ 16 → length w' ≡ 16 →
       translation_words (translation_limit w) ≡ translation_words (translation_limit w') → w ≡ w'
-  -- of the calls: what `read_rotation` gives for 192 bytes, `write_rotation` writes as these bytes; so of translation limits
+  -- of the calls: what `Rotation::from_record` gives for 192 bytes, `Rotation::write` writes as these bytes; so of translation limits
   pub rotation_calls :
-      (b row out out' : List ℕ) (a : RecordWritten) → length b ≡ 192 → ((i : ℕ) → get_or b i 0 < 256) → 192 ≤ length out →
+      (b row out out' : List ℕ) (a : Result (Unit {0}) Refusal) → length b ≡ 192 → ((i : ℕ) → get_or b i 0 < 256) → 192 ≤ length out →
       row ≡ rotation_words (rotation_limit (words 4 48 b)) →
-      meant_record_written a ≡ whether (rotation_written (length out) (rotation_row row)) →
-      out' ≡ left_in (rotation_written (length out) (rotation_row row)) out → (a ≡ Done) × (out' ≡ b ++ drop 192 out)
+      outcome a ≡ whether (rotation_written (length out) (rotation_row row)) →
+      out' ≡ left_in (rotation_written (length out) (rotation_row row)) out → (a ≡ Ok tt) × (out' ≡ b ++ drop 192 out)
   pub translation_calls :
-      (b row out out' : List ℕ) (a : RecordWritten) → length b ≡ 64 → ((i : ℕ) → get_or b i 0 < 256) → 64 ≤ length out →
+      (b row out out' : List ℕ) (a : Result (Unit {0}) Refusal) → length b ≡ 64 → ((i : ℕ) → get_or b i 0 < 256) → 64 ≤ length out →
       row ≡ translation_words (translation_limit (words 4 16 b)) →
-      meant_record_written a ≡ whether (translation_written (length out) (translation_row row)) →
-      out' ≡ left_in (translation_written (length out) (translation_row row)) out → (a ≡ Done) × (out' ≡ b ++ drop 64 out)
+      outcome a ≡ whether (translation_written (length out) (translation_row row)) →
+      out' ≡ left_in (translation_written (length out) (translation_row row)) out → (a ≡ Ok tt) × (out' ≡ b ++ drop 64 out)
   -- a limit written and read is the limit
   pub rotation_again : (l : RotationLimit) → l.id ≤ 65535 → GoodRotation l → rotation_limit (rotation_slots l) ≡ l
   pub translation_again : (l : TranslationLimit) → GoodTranslation l → translation_limit (translation_slots l) ≡ l
@@ -82,7 +80,7 @@ pub record OneWidth : Type 0 where
   pub joints_calls :
       (rotation : List ℕ) (r : ℕ) (translation : List ℕ) (t : ℕ) (out out' : List ℕ) (n : ℕ) →
       ((i : ℕ) → get_or rotation i 0 < 2 ^ 32) → ((i : ℕ) → get_or translation i 0 < 2 ^ 32) →
-      meant_written (Written n) ≡ size_of (table_written (length out) rotation r translation t) →
+      outcome (Ok n) ≡ size_of (table_written (length out) rotation r translation t) →
       out' ≡ left_in (table_written (length out) rotation r translation t) out →
       (graphics rotation₀ translation₀ : List ℕ) → rotation_width * r ≤ length rotation₀ → translation_width * t ≤ length translation₀ →
       table_read (take n out') graphics base rotation₀ translation₀ ≡
@@ -95,18 +93,18 @@ pub record OneWidth : Type 0 where
       (size : ℕ) (rs : List RotationLimit) (ts : List TranslationLimit) → (65535 < length rs) ⊎ (65535 < length ts) →
       joints_written size rs ts ≡ refused 6
   pub wide_record : (size : ℕ) (l : RotationLimit) → (rotation_written size l ≡ refused 35) ↔ (65535 < l.id)
-  -- of the calls: an answer of `write` that asks for rows which are there, and one of `write_rotation`; then the buffer is as it was
+  -- of the calls: an answer of `write` that asks for rows which are there, and one of `Rotation::write`; then the buffer is as it was
   pub wide_calls :
-      (rotation : List ℕ) (r : ℕ) (translation : List ℕ) (t : ℕ) (out out' : List ℕ) (a : JointsWritten) → r ≤ 65535 → t ≤ 65535 →
+      (rotation : List ℕ) (r : ℕ) (translation : List ℕ) (t : ℕ) (out out' : List ℕ) (a : Result ℕ Refusal) → r ≤ 65535 → t ≤ 65535 →
       rotation_width * r ≤ length rotation → translation_width * t ≤ length translation →
-      meant_written a ≡ size_of (table_written (length out) rotation r translation t) →
+      outcome a ≡ size_of (table_written (length out) rotation r translation t) →
       out' ≡ left_in (table_written (length out) rotation r translation t) out →
-      ((meant_written a ≡ refused 35) ↔ AnyOf (λ l. 65535 < l.id) (rotations_of r rotation)) × (meant_written a ≡ refused 35 → out' ≡ out)
+      ((outcome a ≡ refused 35) ↔ AnyOf (λ l. 65535 < l.id) (rotations_of r rotation)) × (outcome a ≡ refused 35 → out' ≡ out)
   pub wide_record_calls :
-      (row out out' : List ℕ) (a : RecordWritten) →
-      meant_record_written a ≡ whether (rotation_written (length out) (rotation_row row)) →
+      (row out out' : List ℕ) (a : Result (Unit {0}) Refusal) →
+      outcome a ≡ whether (rotation_written (length out) (rotation_row row)) →
       out' ≡ left_in (rotation_written (length out) (rotation_row row)) out →
-      ((meant_record_written a ≡ refused 35) ↔ (65535 < get_or row 0 0)) × (meant_record_written a ≡ refused 35 → out' ≡ out)
+      ((outcome a ≡ refused 35) ↔ (65535 < get_or row 0 0)) × (outcome a ≡ refused 35 → out' ≡ out)
   -- an id that was read is never refused
   pub id_read : (w : List ℕ) → (rotation_limit w).id ≤ 65535
 

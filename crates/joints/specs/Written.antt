@@ -1,13 +1,8 @@
 -- What our writer of joints answers, and what it leaves in the buffer (docs/FORMAT.md, "Joints and names"). Definitions only.
-use Rattle.std.specs.Prelude.{ℕ, ◌+◌, ◌*◌, ◌≤◌, List, ◌++◌, map, length, drop, leb}
+use Rattle.std.specs.Prelude.{ℕ, ◌*◌, List, ◌++◌, map, length, drop, leb}
 use Rattle.format.specs.Result.{Res, refused, done, ◌>>=◌, need}
-use Rattle.format.specs.Refusal.{number}
 use Rattle.format.specs.Joints.{RotationLimit, rotation_row, rotation_width, TranslationLimit, translation_row, translation_width}
 use Rattle.format.specs.Joints.{limit_rows, joints_written}
-use Rattle.joints.specs.declared.write.JointsWritten.{JointsWritten}
-use Rattle.joints.specs.declared.write.JointsWritten.TheVariants.{Done as Written, Refused as NotWritten}
-use Rattle.joints.specs.declared.limits.RecordWritten.{RecordWritten}
-use Rattle.joints.specs.declared.limits.RecordWritten.TheVariants.{Done, Refused}
 
 -- the limits in the first n rows of a table
 abbrev pub rotations_of : ℕ → List ℕ → List RotationLimit
@@ -15,6 +10,12 @@ rotations_of n t = map rotation_row (limit_rows rotation_width n t)
 
 abbrev pub translations_of : ℕ → List ℕ → List TranslationLimit
 translations_of n t = map translation_row (limit_rows translation_width n t)
+
+-- the first n rows of w words of a table, if it has so many
+unfoldable pub rows_got : ℕ → ℕ → List ℕ → Res (List (List ℕ))
+rows_got w n t = do
+  u1 ← need 1 (leb (w * n) (length t))
+  done (limit_rows w n t)
 
 -- `joints_written` of the limits in the first r and t rows of two tables, into a buffer of `size` bytes. A table with fewer rows
 -- than asked for is 1, behind 6 and before 35, since the ids of its rows are not there.
@@ -26,25 +27,7 @@ table_written size rotation r translation t = do
   v1 ← need 1 (leb (translation_width * t) (length translation))
   joints_written size (rotations_of r rotation) (translations_of t translation)
 
--- the number of bytes of an answer, or the refusal's number
-abbrev pub meant_written : JointsWritten → Res ℕ
-meant_written (Written n) = done n
-meant_written (NotWritten r) = refused (number r)
-
--- whether one record is written, or the refusal's number
-abbrev pub meant_record_written : RecordWritten → Res (Unit {0})
-meant_record_written Done = done tt
-meant_record_written (Refused r) = refused (number r)
-
 -- what a buffer holds then: the bytes written and the rest as it was, or after a refusal all as it was
 abbrev pub left_in : Res (List ℕ) → List ℕ → List ℕ
 left_in (refused n) out = out
 left_in (done b) out = b ++ drop (length b) out
-
--- nothing is refused
-pub record LimitsRoom (rotation : List ℕ) (r : ℕ) (translation : List ℕ) (t : ℕ) (out : List ℕ) : Type 0 where
-  pub few : r ≤ 65535
-  pub Some : t ≤ 65535
-  pub rotations : 49 * r ≤ length rotation
-  pub translations : 16 * t ≤ length translation
-  pub buffer : 64 + 192 * r + 64 * t ≤ length out

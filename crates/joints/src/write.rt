@@ -1,35 +1,47 @@
 // Our writer of a joints section (docs/FORMAT.md, "Joints and names"; `Block for Joints` of `src/blocks/skeleton.rs`): the record,
 // the rotation limits and the translation limits, one behind the other, from 50000000 hex.
-ghost use Rattle.std.specs.Prelude.{◌≡◌, ◌+◌, ◌*◌, ◌≤◌, ◌<◌, length};
-ghost use Rattle.std.proofs.lemmas.List.Edits.{sets};
+ghost use Rattle.std.specs.Prelude.{◌≡◌, ◌+◌, ◌*◌, ◌≤◌, ◌<◌, length, map};
 ghost use Rattle.format.specs.Field.{word_bytes, lay};
+ghost use Rattle.format.specs.Joints.{rotation_row, translation_row, ids_fit, joints_items, joints_layout};
 ghost use Rattle.format.specs.Layout as Layout;
-ghost use Rattle.format.specs.Joints.{ids_fit, joints_items, joints_layout};
-ghost use Rattle.joints.specs.Written.{rotations_of, translations_of, table_written, meant_written, left_in, LimitsRoom};
+ghost use Rattle.format.specs.Refusal.{outcome, outcome_by};
+ghost use Rattle.joints.specs.Written.{rows_got, table_written, left_in};
 ghost use Rattle.tables.specs.Outcome.{size_of};
 
-use crate::limits::LimitKind;
-use crate::{limits, words};
+use crate::limits::{Limit, Rotation, Translation};
+use crate::{rows, words};
 use format::Refusal;
 
+// The limits in the first `count` rows of a table.
 #[derive(Clone, Copy)]
-pub enum JointsWritten {
-    // this many bytes stand at the front of the buffer
-    Done(usize),
-    Refused(Refusal),
+pub struct Rows<'a, const WORDS: usize> {
+    pub table: &'a [u32],
+    pub count: usize,
+}
+
+impl<'a, const WORDS: usize> Rows<'a, WORDS> {
+    // The rows themselves. 1 for a table that has fewer.
+    fn get(self) -> Result<&'a [[u32; WORDS]], Refusal>
+        requires { 0 < WORDS }
+        ensures { outcome_by (λ rows. rows.now) result ≡ rows_got WORDS self.entry.count self.entry.table.now }
+    {
+        let (rows, _) = self.table.as_chunks::<WORDS>();
+        if rows.len() < self.count {
+            return Err(Refusal::TableTooShort);
+        }
+        Ok(&rows[..self.count])
+    }
 }
 
 // The address of the first limit.
 const FIRST_LIMIT: u32 = 0x5000_0040;
 
 // The pointer to n limits: 0 for an empty list.
+#[tactic(auto, unfolding(format::specs::Layout::pointer))]
 fn pointer(at: u32, n: usize) -> u32
     ensures { result ≡ Layout.pointer at n }
 {
-    if n == 0 {
-        return 0;
-    }
-    at
+    if n == 0 { 0 } else { at }
 }
 
 // The words of the record for r rotation and t translation limits.
@@ -60,72 +72,55 @@ fn header(r: usize, t: usize) -> [u32; 16]
     ]
 }
 
-fn lay_section(rotation: &[u32], r: usize, translation: &[u32], t: usize, out: &mut [u8])
-    requires { LimitsRoom rotation.now r translation.now t out.old }
-    ensures { out.new ≡ sets out.old 0
-        (joints_layout (rotations_of r rotation.now) (translations_of t translation.now)) }
+// Whether each id fits its record.
+fn ids_fit(rotation: &[[u32; 49]]) -> bool
+    ensures { result ≡ ids_fit (map rotation_row rotation.now) }
 {
-    let head = header(r, t);
-    words::store(&head, 0, 16, out, 0);
-    limits::store_rows(LimitKind::Rotation, rotation, r, out, format::JOINTS_SIZE);
-    let behind = format::JOINTS_SIZE + format::ROTATION_LIMIT_SIZE * r;
-    limits::store_rows(LimitKind::Translation, translation, t, out, behind);
+    rotation.iter().all(|row| Rotation::fits(row))
 }
 
-// Whether each id of the first r rows fits its record.
-fn ids_fit(rotation: &[u32], r: usize) -> bool
-    requires { 49 * r ≤ length rotation.now }
-    ensures { result ≡ ids_fit (rotations_of r rotation.now) }
+// The section of these limits, in a part of a buffer that has just its bytes.
+fn lay_section(rotation: &[[u32; 49]], translation: &[[u32; 16]], out: &mut [u8])
+    requires few { (length rotation.now ≤ 65535) × (length translation.now ≤ 65535) }
+    requires room { length out.old ≡ 64 + 192 * length rotation.now + 64 * length translation.now }
+    ensures { out.new ≡ joints_layout (map rotation_row rotation.now) (map translation_row translation.now) }
 {
-    let mut at = 0;
-    let mut i = 0;
-    while i < r {
-        if format::GREATEST_ROTATION_ID < rotation[at] {
-            return false;
-        }
-        at += format::ROTATION_LIMIT_WORDS;
-        i += 1;
-    }
-    true
+    let head = words::store::<64>(&header(rotation.len(), translation.len()));
+    let (front, limits) = out.split_at_mut(format::JOINTS_SIZE);
+    let (rotations, translations) = limits.split_at_mut(
+        format::ROTATION_LIMIT_SIZE * rotation.len(),
+    );
+    front.copy_from_slice(&head);
+    rows::store::<Rotation, 192, 49>(rotation, rotations);
+    rows::store::<Translation, 64, 16>(translation, translations);
 }
 
-// The section of the limits in the first r rows of one table and the first t rows of the other, at the front of `out`. The
-// refusals, in this order: 6 for more than 65,535 of either, 1 for a table with fewer rows than asked for, 35 for a rotation limit whose
-// id is above 65,535, 5 for a buffer that is too short. A refusal changes nothing, and what lies behind the section stays as it was.
-pub fn write(
-    rotation: &[u32],
-    r: usize,
-    translation: &[u32],
-    t: usize,
-    out: &mut [u8],
-) -> JointsWritten
-    ensures answer { meant_written result ≡
-        size_of (table_written (length out.old) rotation.now r translation.now t) }
-    ensures buffer { out.new ≡
-        left_in (table_written (length out.old) rotation.now r translation.now t)
+// The section of the limits in the first rows of two tables, at the front of `out`, and how many bytes it has. The refusals, in this
+// order: 6 for more than 65,535 of either, 1 for a table with fewer rows than asked for, 35 for a rotation limit whose id is above 65,535, 5
+// for a buffer that is too short. A refusal changes nothing, and what lies behind the section stays as it was.
+pub fn write(rotation: Rows<49>, translation: Rows<16>, out: &mut [u8]) -> Result<usize, Refusal>
+    ensures answer { outcome result ≡ size_of
+        (table_written (length out.old) rotation.entry.table.now rotation.entry.count
+        translation.entry.table.now translation.entry.count) }
+    ensures buffer { out.new ≡ left_in
+        (table_written (length out.old) rotation.entry.table.now rotation.entry.count
+        translation.entry.table.now translation.entry.count)
         out.old }
 {
-    if format::MOST < r {
-        return JointsWritten::Refused(Refusal::TooManyLimits);
+    if format::MOST < rotation.count || format::MOST < translation.count {
+        return Err(Refusal::TooManyLimits);
     }
-    if format::MOST < t {
-        return JointsWritten::Refused(Refusal::TooManyLimits);
-    }
-    if rotation.len() / format::ROTATION_LIMIT_WORDS < r {
-        return JointsWritten::Refused(Refusal::TableTooShort);
-    }
-    if translation.len() / format::TRANSLATION_LIMIT_WORDS < t {
-        return JointsWritten::Refused(Refusal::TableTooShort);
-    }
-    if !ids_fit(rotation, r) {
-        return JointsWritten::Refused(Refusal::BadLimitId);
+    let rotation = rotation.get()?;
+    let translation = translation.get()?;
+    if !ids_fit(rotation) {
+        return Err(Refusal::BadLimitId);
     }
     let size = format::JOINTS_SIZE
-        + format::ROTATION_LIMIT_SIZE * r
-        + format::TRANSLATION_LIMIT_SIZE * t;
+        + format::ROTATION_LIMIT_SIZE * rotation.len()
+        + format::TRANSLATION_LIMIT_SIZE * translation.len();
     if out.len() < size {
-        return JointsWritten::Refused(Refusal::BufferTooShort);
+        return Err(Refusal::BufferTooShort);
     }
-    lay_section(rotation, r, translation, t, out);
-    JointsWritten::Done(size)
+    lay_section(rotation, translation, &mut out[..size]);
+    Ok(size)
 }

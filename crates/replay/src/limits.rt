@@ -1,9 +1,13 @@
 // Joints replayed (docs/FORMAT.md, "Joints and names").
+ghost use Rattle.std.specs.Prelude.{◌≤◌};
+
 use crate::buffers;
+use blocks::places::Section;
 use fields::runs;
-use joints::limits::RecordWritten;
-use joints::read::{JointsRead, LimitList};
-use joints::write::JointsWritten;
+use format::Refusal;
+use joints::limits::Limit;
+use joints::read::Joints;
+use joints::write::Rows;
 
 // ---- reading
 
@@ -24,53 +28,33 @@ fn answer_alone(answer: u32) -> [usize; 8] {
     fields
 }
 
-fn stands(l: LimitList) -> usize {
-    match l {
-        LimitList::Absent => 0,
-        LimitList::Of(_) => 1,
-    }
-}
-
-fn limit_count(l: LimitList) -> usize {
-    match l {
-        LimitList::Absent => 0,
-        LimitList::Of(n) => n as usize,
-    }
-}
-
 // The answer, and behind it the kind word, the stored counts, and of each list whether it stands and how many limits it has; zeros
 // where nothing is read.
-fn fields_of(r: JointsRead) -> [usize; 8] {
-    match r {
-        JointsRead::Nothing => answer_alone(rig_answers::NOTHING),
-        JointsRead::Read(j) => {
-            let r = j.rotation;
-            let t = j.translation;
-            [
-                buffers::DONE as usize,
-                j.kind as usize,
-                j.rotation_count as usize,
-                j.translation_count as usize,
-                stands(r),
-                limit_count(r),
-                stands(t),
-                limit_count(t),
-            ]
-        }
-        JointsRead::Refused(e) => answer_alone(u32::from(e)),
+fn fields_of(read: Result<Option<Joints>, Refusal>) -> [usize; 8] {
+    match read {
+        Ok(None) => answer_alone(rig_answers::NOTHING),
+        Ok(Some(j)) => [
+            buffers::DONE as usize,
+            j.kind as usize,
+            j.rotation_count as usize,
+            j.translation_count as usize,
+            usize::from(j.rotation.is_some()),
+            usize::from(j.rotation.unwrap_or(0)),
+            usize::from(j.translation.is_some()),
+            usize::from(j.translation.unwrap_or(0)),
+        ],
+        Err(refusal) => answer_alone(u32::from(refusal)),
     }
 }
 
 pub(crate) fn read_agrees(case: &[u8], root: u64) -> bool {
     let mut rotation = buffers::dirty32();
     let mut translation = buffers::dirty32();
-    let r = joints::read::read(
-        replay_sample::part(case, SYSTEM),
-        replay_sample::part(case, GRAPHICS),
-        root,
-        &mut rotation,
-        &mut translation,
-    );
+    let section = Section {
+        system: replay_sample::part(case, SYSTEM),
+        graphics: replay_sample::part(case, GRAPHICS),
+    };
+    let r = joints::read::read(section, root, &mut rotation, &mut translation);
     let fields = fields_of(r);
     buffers::all(
         replay_sample::same_sizes(&fields, replay_sample::part(case, FIELDS)),
@@ -89,10 +73,10 @@ const TRANSLATION_LIMITS: u16 = 3;
 
 const SECTION: u16 = 4;
 
-fn written_as(w: JointsWritten, answer: u32, size: usize) -> bool {
-    match w {
-        JointsWritten::Done(n) => answer == buffers::DONE && n == size,
-        JointsWritten::Refused(e) => answer == u32::from(e),
+fn answered<T: Copy>(written: Result<T, Refusal>, answer: u32) -> bool {
+    match written {
+        Ok(_) => answer == buffers::DONE,
+        Err(refusal) => answer == u32::from(refusal),
     }
 }
 
@@ -100,10 +84,18 @@ pub(crate) fn write_agrees(case: &[u8], r: usize, t: usize, answer: u32) -> bool
     let rotation = replay_sample::loaded32(replay_sample::part(case, ROTATION_LIMITS));
     let translation = replay_sample::loaded32(replay_sample::part(case, TRANSLATION_LIMITS));
     let mut out = buffers::dirty8();
-    let w = joints::write::write(&rotation, r, &translation, t, &mut out);
+    let rotations = Rows {
+        table: &rotation,
+        count: r,
+    };
+    let translations = Rows {
+        table: &translation,
+        count: t,
+    };
+    let w = joints::write::write(rotations, translations, &mut out);
     let want = replay_sample::part(case, SECTION);
     buffers::all(
-        written_as(w, answer, want.len()),
+        answered(w, answer) && w.unwrap_or(want.len()) == want.len(),
         replay_sample::same8(&out, want, buffers::DIRT8),
         true,
         true,
@@ -117,69 +109,45 @@ const RECORD: u16 = 2;
 
 const ROW: u16 = 3;
 
-pub(crate) fn rotation_read_agrees(case: &[u8]) -> bool {
+pub(crate) fn row_read_agrees<L: Limit<BYTES, WORDS>, const BYTES: usize, const WORDS: usize>(
+    case: &[u8],
+) -> bool
+    requires { (BYTES ≤ 192) × (WORDS ≤ 49) }
+{
     let words = replay_sample::loaded32(replay_sample::part(case, RECORD));
-    let mut bytes = [0u8; 192];
-    let _ = runs::put(&mut bytes, 0, &words[0..48]);
-    let row = joints::limits::read_rotation(&bytes);
-    replay_sample::same32(&row, replay_sample::part(case, ROW))
-}
-
-pub(crate) fn translation_read_agrees(case: &[u8]) -> bool {
-    let words = replay_sample::loaded32(replay_sample::part(case, RECORD));
-    let mut bytes = [0u8; 64];
-    let _ = runs::put(&mut bytes, 0, &words[0..16]);
-    let row = joints::limits::read_translation(&bytes);
+    let mut bytes = [0u8; BYTES];
+    let slots = words.len().min(BYTES / 4);
+    let _ = runs::put(&mut bytes, 0, &words[..slots]);
+    let row = L::from_record(&bytes);
     replay_sample::same32(&row, replay_sample::part(case, ROW))
 }
 
 // the parts of a writing
 const WRITTEN_ROW: u16 = 2;
 
-const BYTES: u16 = 3;
+const BYTES_WRITTEN: u16 = 3;
 
-fn record_written_as(w: RecordWritten, answer: u32) -> bool {
-    match w {
-        RecordWritten::Done => answer == buffers::DONE,
-        RecordWritten::Refused(e) => answer == u32::from(e),
-    }
-}
-
-// The writings, lent the first n bytes of a buffer.
-fn write_rotation_into(row: &[u32; 49], n: usize, out: &mut [u8]) -> RecordWritten {
-    let lent = replay_sample::within8(n, out);
-    joints::limits::write_rotation(row, &mut out[..lent])
-}
-
-fn write_translation_into(row: &[u32; 16], n: usize, out: &mut [u8]) -> RecordWritten {
-    let lent = replay_sample::within8(n, out);
-    joints::limits::write_translation(row, &mut out[..lent])
-}
-
-// All of the buffer is compared, also what is not lent.
-pub(crate) fn rotation_write_agrees(case: &[u8], n: usize, answer: u32) -> bool {
+// Lent the first n bytes of a buffer; all of it is compared, also what is not lent.
+pub(crate) fn row_write_agrees<L: Limit<BYTES, WORDS>, const BYTES: usize, const WORDS: usize>(
+    case: &[u8],
+    n: usize,
+    answer: u32,
+) -> bool
+    requires { (BYTES ≤ 192) × (WORDS ≤ 49) }
+{
     let words = replay_sample::loaded32(replay_sample::part(case, WRITTEN_ROW));
-    let mut row = [0u32; 49];
-    let _ = runs::copy(&words, 0, 49, &mut row, 0);
+    let mut row = [0u32; WORDS];
+    let _ = runs::copy(&words, 0, WORDS, &mut row, 0);
     let mut out = buffers::dirty8();
-    let w = write_rotation_into(&row, n, &mut out);
+    let lent = replay_sample::within8(n, &out);
+    let written = L::write(&row, &mut out[..lent]);
     buffers::all(
-        record_written_as(w, answer),
-        replay_sample::same8(&out, replay_sample::part(case, BYTES), buffers::DIRT8),
-        true,
-        true,
-    )
-}
-
-pub(crate) fn translation_write_agrees(case: &[u8], n: usize, answer: u32) -> bool {
-    let words = replay_sample::loaded32(replay_sample::part(case, WRITTEN_ROW));
-    let mut row = [0u32; 16];
-    let _ = runs::copy(&words, 0, 16, &mut row, 0);
-    let mut out = buffers::dirty8();
-    let w = write_translation_into(&row, n, &mut out);
-    buffers::all(
-        record_written_as(w, answer),
-        replay_sample::same8(&out, replay_sample::part(case, BYTES), buffers::DIRT8),
+        answered(written, answer),
+        replay_sample::same8(
+            &out,
+            replay_sample::part(case, BYTES_WRITTEN),
+            buffers::DIRT8,
+        ),
         true,
         true,
     )

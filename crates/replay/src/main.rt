@@ -10,6 +10,7 @@ mod rigs; // deriving
 mod limits; // joints
 mod names; // hashes
 
+use joints::limits::{Rotation, Translation};
 use std::io;
 use std::io::Read;
 
@@ -98,10 +99,10 @@ fn run_agrees(operation: u32, case: &[u8], a: u64, b: u64, run: u32, answer: u32
         8 => limits::write_agrees(case, a as usize, b as usize, answer),
         9 => limits::fresh_agrees(case),
         10 => names::hash_agrees(case),
-        11 => limits::rotation_read_agrees(case),
-        12 => limits::rotation_write_agrees(case, a as usize, answer),
-        13 => limits::translation_read_agrees(case),
-        14 => limits::translation_write_agrees(case, a as usize, answer),
+        11 => limits::row_read_agrees::<Rotation, 192, 49>(case),
+        12 => limits::row_write_agrees::<Rotation, 192, 49>(case, a as usize, answer),
+        13 => limits::row_read_agrees::<Translation, 64, 16>(case),
+        14 => limits::row_write_agrees::<Translation, 64, 16>(case, a as usize, answer),
         _ => false,
     }
 }

@@ -99,7 +99,8 @@ pub fn read_fields(r: Result<Option<Skeleton>, Refusal>) -> [usize; 20]
 
 // ---- writing
 
-pub fn written_status(answer: Result<usize, Refusal>) -> u32
+// The status of a call that does what is asked, or refuses.
+pub fn written_status<T: Copy>(answer: Result<T, Refusal>) -> u32
     ensures { result ≡ status (outcome answer) }
 {
     match answer {

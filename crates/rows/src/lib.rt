@@ -1,5 +1,6 @@
 // A bone's row in a lent table of 32-bit words (docs/FORMAT.md, "Records"; the words of a row stand in `format`, Rows.antt).
-// Every table and position has an answer: words that the table lacks read as 0.
+// Every table and position has an answer: words that the table lacks read as 0. A table and a row's number name a bone as they do in the
+// definitions (`row_at t p`): `parent_at(bones, p)` is as plain as a method of a view of that row.
 #![tactic(auto, unfolding(format::specs::Rows::bone_of, format::specs::Rows::place_of, crate::specs::Value::our_bone))]
 
 ghost use Rattle.std.specs.Prelude.{◌≡◌, ◌+◌, ◌*◌, ◌/◌, ◌%◌, ◌^◌, ◌≤◌, length, get_or};

@@ -28,11 +28,9 @@ use Rattle.lookup.specs.Looked.{looked_of}
 use Rattle.lookup.specs.declared.Looked.{Looked}
 use Rattle.verify.specs.Checks.{Checks}
 use Rattle.write.specs.Outcome.{outcome, Writes}
-use Rattle.joints.specs.Reading.{table_read, meant_joints, whether}
-use Rattle.joints.specs.declared.read.JointsRead.{JointsRead}
-use Rattle.joints.specs.Written.{table_written, meant_written, meant_record_written}
-use Rattle.joints.specs.declared.limits.RecordWritten.{RecordWritten}
-use Rattle.joints.specs.declared.write.JointsWritten.{JointsWritten}
+use Rattle.joints.specs.Reading.{table_read, joints_if, whether}
+use Rattle.joints.specs.declared.read.Joints.{Joints}
+use Rattle.joints.specs.Written.{table_written}
 
 pub record Refusals : Type 0 where
   -- the three deriving calls, by the lengths of what they are lent
@@ -60,15 +58,16 @@ pub record Refusals : Type 0 where
   pub looking_up :
       (sec : Section) (root tag : ℕ) (r : Looked) → looked_of r ≡ lookup sec root tag → RefusesOnly lookup_refusals (looked_of r)
   pub joints_reading :
-      (sys gfx : List ℕ) (root : ℕ) (rotation₀ translation₀ rotation translation : List ℕ) (r : JointsRead) →
-      meant_joints r rotation translation ≡ table_read sys gfx root rotation₀ translation₀ →
-      RefusesOnly joints_read_refusals (meant_joints r rotation translation)
+      (sys gfx : List ℕ) (root : ℕ) (rotation₀ translation₀ rotation translation : List ℕ) (r : Result (Option Joints) Refusal) →
+      refusal.outcome_by (joints_if rotation translation) r ≡ table_read sys gfx root rotation₀ translation₀ →
+      RefusesOnly joints_read_refusals (refusal.outcome_by (joints_if rotation translation) r)
   pub joints_writing :
-      (size : ℕ) (rotation : List ℕ) (r : ℕ) (translation : List ℕ) (t : ℕ) (w : JointsWritten) →
-      meant_written w ≡ size_of (table_written size rotation r translation t) → RefusesOnly joints_written_refusals (meant_written w)
+      (size : ℕ) (rotation : List ℕ) (r : ℕ) (translation : List ℕ) (t : ℕ) (w : Result ℕ Refusal) →
+      refusal.outcome w ≡ size_of (table_written size rotation r translation t) → RefusesOnly joints_written_refusals (refusal.outcome w)
   pub rotation_writing :
-      (size : ℕ) (row : List ℕ) (w : RecordWritten) → meant_record_written w ≡ whether (rotation_written size (rotation_row row)) →
-      RefusesOnly rotation_written_refusals (meant_record_written w)
+      (size : ℕ) (row : List ℕ) (w : Result (Unit {0}) Refusal) → refusal.outcome w ≡ whether (rotation_written size (rotation_row row)) →
+      RefusesOnly rotation_written_refusals (refusal.outcome w)
   pub translation_writing :
-      (size : ℕ) (row : List ℕ) (w : RecordWritten) → meant_record_written w ≡ whether (translation_written size (translation_row row)) →
-      RefusesOnly translation_written_refusals (meant_record_written w)
+      (size : ℕ) (row : List ℕ) (w : Result (Unit {0}) Refusal) →
+      refusal.outcome w ≡ whether (translation_written size (translation_row row)) →
+      RefusesOnly translation_written_refusals (refusal.outcome w)

@@ -1,9 +1,6 @@
--- `joints::words::load` meets its contract: the run stands. Assumes nothing.
-use mathlib.Core.Path.{◌∙◌}
-use Rattle.fields.proofs.RunLaws.{loaded-stands}
+-- `joints::words::load` meets its contract: the run is all of the array. Assumes nothing.
+use Rattle.joints.proofs.Slots.{loaded_all}
 use Rattle.joints.proofs.words.load.Goals as goal
 
 pub returns : goal.returns
-returns c =
-    c.load.ensures.table
-    ∙ loaded-stands 4 c.args.n c.args.s.now c.args.from c.args.t.now c.args.to c.requires.0 c.requires.1
+returns g c = loaded_all g.row.N c.args.bytes.now c.requires c.load.ensures.table

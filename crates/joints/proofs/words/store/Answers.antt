@@ -1,8 +1,6 @@
--- `joints::words::store` meets its contract: the run stands. Assumes nothing.
-use mathlib.Core.Path.{◌∙◌}
-use Rattle.fields.proofs.RunLaws.{part-stored}
+-- `joints::words::store` meets its contract: the run is all of the array. Assumes nothing.
+use Rattle.joints.proofs.Slots.{stored_all}
 use Rattle.joints.proofs.words.store.Goals as goal
 
 pub returns : goal.returns
-returns c =
-    c.put.ensures.bytes ∙ part-stored 4 c.args.n c.args.t.now c.args.from c.args.d.now c.args.at c.requires.0 c.requires.1
+returns g c = stored_all g.row.N c.args.words.now c.requires c.put.ensures.bytes

@@ -1,0 +1,9 @@
+-- `Translation::to_record` meets its contract: the slots of the record, one by one. Assumes nothing.
+use borrow.Author.Rules.{rules}
+use mathlib.Core.Path.{ap, ◌∙◌}
+use Rattle.format.specs.Field.{word_bytes}
+use Rattle.joints.proofs.Slots.{translation_put_lem}
+use Rattle.joints.proofs.limits.TranslationLimit6416.to_record.Goals as goal
+
+pub returns : goal.returns
+returns c = c.store.ensures ∙ ap (word_bytes 4) (translation_put_lem c.args.t.now (search rules))
