@@ -14,7 +14,6 @@ use blocks::pool;
 use blocks::pool::Stored;
 use format::{Refusal, Words4};
 use read_records::header;
-use read_records::header::Headed;
 
 mod parts; // the parts, one after another
 
@@ -72,12 +71,9 @@ fn fill(section: Section, root: u64, tables: &mut Tables) -> Result<Skeleton, Re
     ensures filled { Fills (section_of section.entry) root result (lists tables.old) (lists tables.new) }
     ensures same { SameTables tables.old tables.new }
 {
+    let h = header::header_at(section, root)?;
     let sys = section.system;
     let gfx = section.graphics;
-    let h = match header::header_at(sys, gfx, root) {
-        Headed::At(h) => h,
-        Headed::Refused(r) => return Err(r),
-    };
     let (buckets, bones) = parts::read_rows(
         sys,
         gfx,
@@ -109,9 +105,12 @@ fn fill(section: Section, root: u64, tables: &mut Tables) -> Result<Skeleton, Re
         tables.pool,
     )?;
     parts::keep(tables.bones, bones, tables.local, local);
-    if let Stored::Full = pool::put(tables.pool, root, Kind::Skeleton, 0, 1) {
-        return Err(Refusal::TableTooShort);
-    }
+    pool::put(
+        tables.pool,
+        root,
+        Kind::Skeleton,
+        Stored { first: 0, count: 1 },
+    )?;
     Ok(Skeleton {
         kind: h.kind,
         free: h.free,
