@@ -2,12 +2,13 @@
 -- That the derived rows link the derived chains is in `Derived`. Assumes nothing.
 use mathlib.Core.Path.{◌≡◌, refl, sym, ap, ◌∙◌}
 use mathlib.Core.List.{List, [], ◌∷◌, ◌++◌, map}
-use Prim.Native.Nat.{ℕ, zero, suc, ◌+◌, ◌-◌, ◌*◌, ◌≤◌, ◌<◌}
+use Prim.Native.Nat.{ℕ, zero, suc, ◌+◌, ◌-◌, ◌*◌, ◌/◌, ◌≤◌, ◌<◌}
 use native.Mathlib.Nat.{add_assoc, add-zero, mul-zero}
 use native.Mathlib.Numerals.{add-one}
 use native.Mathlib.Omega.{arith}
 use lib.ListN.{length, get_or, drop, replicate, length-replicate, length-append, length-map, length-drop, drop_of_length-le}
-use lib.Seq.{sets, length-sets, drop-cons}
+use lib.Seq.{sets, length-sets, drop-cons, get_or-take, get_or-drop}
+use Rattle.std.specs.Simd.{first_chunks}
 use Rattle.format.specs.Field.{bytes, word_bytes, lay}
 use Rattle.format.specs.Chains.{Entry, entry_of}
 use Rattle.format.specs.Layout.{base, fill, pad16, pointer, pointers, chain_bytes, entry_total, entry_bytes}
@@ -31,6 +32,24 @@ pub stored-pointer :
     (d : List ℕ) {d' : List ℕ} (at head link : ℕ) {p : ℕ} → head ≤ window → p ≡ pointer (base + head) link
     → d' ≡ sets d at (word_bytes 4 (p ∷ 0 ∷ [])) → d' ≡ sets d at (bytes 8 (pointer (base + head) link))
 stored-pointer d at head link h e f = rw (pointer-words head link h) at (rw e at f)
+
+-- ---- the rows of the entries
+
+chunk-word :
+    (n : ℕ) (t : List ℕ) (p j : ℕ) → p < n → j < 3 → get_or (get_or (first_chunks 3 n t) p []) j 0 ≡ get_or t (3 * p + j) 0
+chunk-word zero t p j h k = absurd (omega arith)
+chunk-word (suc n) t zero j h k =
+    let e : j ≡ 3 * 0 + j = omega arith in
+    get_or-take 3 t j 0 k ∙ ap (λ (i : ℕ). get_or t i 0) e
+chunk-word (suc n) t (suc p) j h k =
+    let e : 3 + (3 * p + j) ≡ 3 * suc p + j = omega arith in
+    chunk-word n (drop 3 t) p j (omega arith) k ∙ get_or-drop 3 t (3 * p + j) 0 ∙ ap (λ (i : ℕ). get_or t i 0) e
+
+-- a word of a row
+pub row-word :
+    (t : List ℕ) {rows : List (List ℕ)} → rows ≡ first_chunks 3 (length t / 3) t → (p j : ℕ) → 3 * p + 3 ≤ length t → j < 3
+    → get_or (get_or rows p []) j 0 ≡ get_or t (3 * p + j) 0
+row-word t e p j h k = rw e (chunk-word (length t / 3) t p j (omega arith) k)
 
 -- ---- the chain from a link on
 

@@ -9,13 +9,14 @@ ghost use Rattle.write.specs.Linked.{entry_items, linked, ChainRoom, ChainsRoom,
 
 use crate::starts::{fill, pointer};
 use crate::words::{put_run, put_zeros};
+use format::{ENTRY_SIZE, ENTRY_WORDS};
 
 // Stores an entry in front of one that lies right behind it, or of none where `link` is 0.
 fn put_entry(d: &mut [u8], at: usize, tag: u32, position: u32, link: u32)
     requires { (at + 16 ≤ length d.old) × (at + 16 ≤ window) }
     ensures bytes { d.new ≡ sets d.old at (lay (entry_items (base + (at + 16)) tag position link)) }
 {
-    let next = pointer(at + format::ENTRY_SIZE, link as usize);
+    let next = pointer(at + ENTRY_SIZE, link as usize);
     put_run(d, at, &[tag, position, next, 0]);
 }
 
@@ -25,20 +26,15 @@ fn put_chain(d: &mut [u8], at: usize, entries: &[u32], link: u32) -> usize
     ensures end { result ≡ at + 16 * length (linked entries.now link) }
     ensures bytes { d.new ≡ sets d.old at (chain_bytes (base + at) (linked entries.now link)) }
 {
+    let (rows, _) = entries.as_chunks::<ENTRY_WORDS>();
     let mut to = at;
-    let mut l = link;
-    while l != 0 {
-        let row = format::ENTRY_WORDS * (l as usize - 1);
-        let next = entries[row + format::ENTRY_LINK];
-        put_entry(
-            d,
-            to,
-            entries[row],
-            entries[row + format::ENTRY_POSITION],
-            next,
-        );
-        to += format::ENTRY_SIZE;
-        l = next;
+    let mut next = link;
+    // Links lead from row to row: no iterator goes so.
+    while next != 0 {
+        let [tag, position, link] = rows[next as usize - 1];
+        put_entry(d, to, tag, position, link);
+        to += ENTRY_SIZE;
+        next = link;
     }
     to
 }

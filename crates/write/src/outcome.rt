@@ -19,7 +19,8 @@ use derive_chains::buckets::{bucket_count, entry_count};
 use format::{BONE_WORDS, Refusal, Words4};
 use tables::working::Working;
 
-// Tests the first n bones of a table and their names: refusals 2, 1 for the table, 4. Gives the bytes that the names take.
+// Tests the first n bones of a table, which C lends with their number, and their names: refusals 2, 1 for the table, 4. Gives the bytes
+// that the names take.
 fn check_bones(bones: &[u32], n: usize, names: Section) -> Result<usize, Refusal>
     ensures answer { answered result ≡ tested (section_of names.entry) n bones.now }
 {

@@ -10,7 +10,7 @@ use crate::starts::{Starts, pointer};
 use crate::words::put_run;
 use format::Words4;
 
-// Two 16-bit numbers in one word, the first in the lower half.
+// Two 16-bit numbers in one word, the first in the lower half. The counts are `usize`: `from` would want them cut first.
 fn halves(lo: usize, hi: usize) -> u32
     requires { (lo ≤ 65535) × (hi ≤ 65535) }
     ensures answer { result ≡ lo + 65536 * hi }

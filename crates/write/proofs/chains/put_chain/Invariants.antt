@@ -2,8 +2,8 @@
 use Rattle.write.proofs.Linked.{Chaining}
 use Rattle.write.proofs.chains.put_chain.Given as goal
 
-abbrev pub invariant-loop-l : goal.invariant-loop-l
-invariant-loop-l l = Chaining l.entries l.link l.initial.d l.at l.d l.to l.l
+abbrev pub invariant-loop-next : goal.invariant-loop-next
+invariant-loop-next l = Chaining l.entries l.fn.link l.initial.d l.at l.d l.to l.next
 
-abbrev pub decreases-loop-l : goal.decreases-loop-l
-decreases-loop-l l = l.l
+abbrev pub decreases-loop-next : goal.decreases-loop-next
+decreases-loop-next l = l.next
