@@ -1,4 +1,5 @@
-// What is lent: tables and a buffer, none of them zero before a call.
+// What is lent: tables and a buffer, none of them zero before a call. Each has a length and a pattern of its own, so that one generic function
+// would be told both at each call.
 ghost use Rattle.std.specs.Prelude.{◌≡◌, length};
 
 // the answer of a call that does what is asked; others are `rig_answers::NOTHING` and the numbers of the refusals
@@ -30,7 +31,7 @@ pub(crate) fn dirty64() -> [u64; 512]
     [0xA5A5_A5A5_A5A5_A5A5; 512]
 }
 
-// Whether all comparisons agree.
+// Whether all comparisons agree. compare/vectors/run leaves one out at a time, here.
 pub(crate) fn all(a: bool, b: bool, c: bool, d: bool) -> bool {
     a && b && c && d
 }

@@ -57,9 +57,9 @@ pub(crate) fn read_agrees(case: &[u8], root: u64) -> bool {
     let r = joints::read::read(section, root, &mut rotation, &mut translation);
     let fields = fields_of(r);
     buffers::all(
-        replay_sample::same_sizes(&fields, replay_sample::part(case, FIELDS)),
-        replay_sample::same32(&rotation, replay_sample::part(case, ROTATION)),
-        replay_sample::same32(&translation, replay_sample::part(case, TRANSLATION)),
+        replay_sample::same(&fields.map(|n| n as u64), replay_sample::part(case, FIELDS)),
+        replay_sample::same(&rotation, replay_sample::part(case, ROTATION)),
+        replay_sample::same(&translation, replay_sample::part(case, TRANSLATION)),
         true,
     )
 }
@@ -81,8 +81,8 @@ fn answered<T: Copy>(written: Result<T, Refusal>, answer: u32) -> bool {
 }
 
 pub(crate) fn write_agrees(case: &[u8], r: usize, t: usize, answer: u32) -> bool {
-    let rotation = replay_sample::loaded32(replay_sample::part(case, ROTATION_LIMITS));
-    let translation = replay_sample::loaded32(replay_sample::part(case, TRANSLATION_LIMITS));
+    let rotation = replay_sample::loaded(replay_sample::part(case, ROTATION_LIMITS));
+    let translation = replay_sample::loaded(replay_sample::part(case, TRANSLATION_LIMITS));
     let mut out = buffers::dirty8();
     let rotations = Rows {
         table: &rotation,
@@ -96,7 +96,7 @@ pub(crate) fn write_agrees(case: &[u8], r: usize, t: usize, answer: u32) -> bool
     let want = replay_sample::part(case, SECTION);
     buffers::all(
         answered(w, answer) && w.unwrap_or(want.len()) == want.len(),
-        replay_sample::same8(&out, want, buffers::DIRT8),
+        replay_sample::same_bytes(&out, want, buffers::DIRT8),
         true,
         true,
     )
@@ -114,12 +114,12 @@ pub(crate) fn row_read_agrees<L: Limit<BYTES, WORDS>, const BYTES: usize, const 
 ) -> bool
     requires { (BYTES ≤ 192) × (WORDS ≤ 49) }
 {
-    let words = replay_sample::loaded32(replay_sample::part(case, RECORD));
+    let words = replay_sample::loaded(replay_sample::part(case, RECORD));
     let mut bytes = [0u8; BYTES];
     let slots = words.len().min(BYTES / 4);
     let _ = runs::put(&mut bytes, 0, &words[..slots]);
     let row = L::from_record(&bytes);
-    replay_sample::same32(&row, replay_sample::part(case, ROW))
+    replay_sample::same(&row, replay_sample::part(case, ROW))
 }
 
 // the parts of a writing
@@ -135,15 +135,15 @@ pub(crate) fn row_write_agrees<L: Limit<BYTES, WORDS>, const BYTES: usize, const
 ) -> bool
     requires { (BYTES ≤ 192) × (WORDS ≤ 49) }
 {
-    let words = replay_sample::loaded32(replay_sample::part(case, WRITTEN_ROW));
+    let words = replay_sample::loaded(replay_sample::part(case, WRITTEN_ROW));
     let mut row = [0u32; WORDS];
     let _ = runs::copy(&words, 0, WORDS, &mut row, 0);
     let mut out = buffers::dirty8();
-    let lent = replay_sample::within8(n, &out);
+    let lent = replay_sample::within(n, &out);
     let written = L::write(&row, &mut out[..lent]);
     buffers::all(
         answered(written, answer),
-        replay_sample::same8(
+        replay_sample::same_bytes(
             &out,
             replay_sample::part(case, BYTES_WRITTEN),
             buffers::DIRT8,
@@ -160,5 +160,5 @@ const FRESH: u16 = 2;
 
 pub(crate) fn fresh_agrees(case: &[u8]) -> bool {
     let row = joints::limits::fresh_rotation_limit();
-    replay_sample::same32(&row, replay_sample::part(case, FRESH))
+    replay_sample::same(&row, replay_sample::part(case, FRESH))
 }

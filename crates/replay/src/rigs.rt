@@ -30,15 +30,15 @@ fn tagged_as(r: Result<usize, Refusal>, answer: u32, count: usize) -> bool {
 }
 
 pub(crate) fn tags_agree(case: &[u8], n: usize, answer: u32) -> bool {
-    let bones = replay_sample::loaded32(replay_sample::part(case, BONES));
+    let bones = replay_sample::loaded(replay_sample::part(case, BONES));
     let mut buckets = buffers::dirty32();
     let mut entries = buffers::dirty32();
     let r = derive_chains::tags::build_bone_tags(&bones, n, &mut buckets, &mut entries);
     let want = replay_sample::part(case, BUCKETS);
     buffers::all(
         tagged_as(r, answer, want.len() / 4),
-        replay_sample::same32(&buckets, want),
-        replay_sample::same32(&entries, replay_sample::part(case, ENTRIES)),
+        replay_sample::same(&buckets, want),
+        replay_sample::same(&entries, replay_sample::part(case, ENTRIES)),
         true,
     )
 }
@@ -53,7 +53,7 @@ fn indexed_as(r: Result<usize, Refusal>, answer: u32, count: usize) -> bool {
 }
 
 pub(crate) fn indices_agree(case: &[u8], n: usize, answer: u32) -> bool {
-    let bones = replay_sample::loaded32(replay_sample::part(case, BONES));
+    let bones = replay_sample::loaded(replay_sample::part(case, BONES));
     let mut parents = buffers::dirty16();
     let mut children = buffers::dirty16();
     let mut pending = buffers::dirty32();
@@ -67,9 +67,9 @@ pub(crate) fn indices_agree(case: &[u8], n: usize, answer: u32) -> bool {
     let want = replay_sample::part(case, CHILDREN);
     buffers::all(
         indexed_as(r, answer, want.len() / 2),
-        replay_sample::same16(&parents, replay_sample::part(case, PARENTS)),
-        replay_sample::same16(&children, want),
-        replay_sample::same32(&pending, replay_sample::part(case, PENDING)),
+        replay_sample::same(&parents, replay_sample::part(case, PARENTS)),
+        replay_sample::same(&children, want),
+        replay_sample::same(&pending, replay_sample::part(case, PENDING)),
     )
 }
 
@@ -83,14 +83,14 @@ fn transformed_as(r: Result<(), Refusal>, answer: u32) -> bool {
 }
 
 pub(crate) fn matrices_agree(case: &[u8], n: usize, answer: u32) -> bool {
-    let bones = replay_sample::loaded32(replay_sample::part(case, BONES));
+    let bones = replay_sample::loaded(replay_sample::part(case, BONES));
     let mut inverse = buffers::dirty32();
     let mut local = buffers::dirty32();
     let r = derive_matrices::matrices::build_transformations(&bones, n, &mut inverse, &mut local);
     buffers::all(
         transformed_as(r, answer),
-        replay_sample::same32(&inverse, replay_sample::part(case, INVERSE)),
-        replay_sample::same32(&local, replay_sample::part(case, LOCAL)),
+        replay_sample::same(&inverse, replay_sample::part(case, INVERSE)),
+        replay_sample::same(&local, replay_sample::part(case, LOCAL)),
         true,
     )
 }

@@ -3,6 +3,7 @@ use crate::buffers;
 use blocks::places::Section;
 use format::Refusal;
 use read::{Skeleton, Tables};
+use replay_sample::run::Run;
 
 // the parts
 const OTHERS: u16 = 3;
@@ -34,7 +35,7 @@ const POOL: u16 = 14;
 
 fn answer_agrees(r: Result<Option<Skeleton>, Refusal>, want: &[u8], answer: u32) -> bool {
     let fields = rig_answers::read_fields(r);
-    let same = replay_sample::same_sizes(&fields, replay_sample::part(want, FIELDS));
+    let same = replay_sample::same(&fields.map(|n| n as u64), replay_sample::part(want, FIELDS));
     buffers::all(rig_answers::status(r) == answer, same, true, true)
 }
 
@@ -42,10 +43,10 @@ fn answer_agrees(r: Result<Option<Skeleton>, Refusal>, want: &[u8], answer: u32)
 
 fn rows_agree(want: &[u8], bones: &[u32], buckets: &[u32], entries: &[u32], pool: &[u64]) -> bool {
     buffers::all(
-        replay_sample::same32(bones, replay_sample::part(want, BONES)),
-        replay_sample::same32(buckets, replay_sample::part(want, BUCKETS)),
-        replay_sample::same32(entries, replay_sample::part(want, ENTRIES)),
-        replay_sample::same64(pool, replay_sample::part(want, POOL)),
+        replay_sample::same(bones, replay_sample::part(want, BONES)),
+        replay_sample::same(buckets, replay_sample::part(want, BUCKETS)),
+        replay_sample::same(entries, replay_sample::part(want, ENTRIES)),
+        replay_sample::same(pool, replay_sample::part(want, POOL)),
     )
 }
 
@@ -57,10 +58,10 @@ fn lists_agree(
     children: &[u16],
 ) -> bool {
     buffers::all(
-        replay_sample::same32(inverse, replay_sample::part(want, INVERSE)),
-        replay_sample::same32(local, replay_sample::part(want, LOCAL)),
-        replay_sample::same16(parents, replay_sample::part(want, PARENTS)),
-        replay_sample::same16(children, replay_sample::part(want, CHILDREN)),
+        replay_sample::same(inverse, replay_sample::part(want, INVERSE)),
+        replay_sample::same(local, replay_sample::part(want, LOCAL)),
+        replay_sample::same(parents, replay_sample::part(want, PARENTS)),
+        replay_sample::same(children, replay_sample::part(want, CHILDREN)),
     )
 }
 
@@ -70,7 +71,7 @@ fn lists_agree(
 fn lists_into(
     case: &[u8],
     root: u64,
-    run: u32,
+    run: Run,
     want: &[u8],
     answer: u32,
     bones: &mut [u32],
@@ -82,10 +83,10 @@ fn lists_into(
     let mut local_table = buffers::dirty32();
     let mut parents_table = buffers::dirty16();
     let mut children_table = buffers::dirty16();
-    let i = replay_sample::lent32(case, run, 3, &inverse_table);
-    let l = replay_sample::lent32(case, run, 4, &local_table);
-    let p = replay_sample::lent16(case, run, 5, &parents_table);
-    let c = replay_sample::lent16(case, run, 6, &children_table);
+    let i = replay_sample::run::lent(case, run, 3, &inverse_table);
+    let l = replay_sample::run::lent(case, run, 4, &local_table);
+    let p = replay_sample::run::lent(case, run, 5, &parents_table);
+    let c = replay_sample::run::lent(case, run, 6, &children_table);
     let inverse = &mut inverse_table[..i];
     let local = &mut local_table[..l];
     let parents = &mut parents_table[..p];
@@ -110,15 +111,15 @@ fn lists_into(
 }
 
 // Lends the bones, the chains and the pool likewise, and compares them behind the rest.
-fn rows_into(case: &[u8], root: u64, run: u32, want: &[u8], answer: u32) -> bool {
+fn rows_into(case: &[u8], root: u64, run: Run, want: &[u8], answer: u32) -> bool {
     let mut bones_table = buffers::dirty32();
     let mut buckets_table = buffers::dirty32();
     let mut entries_table = buffers::dirty32();
     let mut pool_table = buffers::dirty64();
-    let n = replay_sample::lent32(case, run, 0, &bones_table);
-    let b = replay_sample::lent32(case, run, 1, &buckets_table);
-    let e = replay_sample::lent32(case, run, 2, &entries_table);
-    let p = replay_sample::lent64(case, run, 7, &pool_table);
+    let n = replay_sample::run::lent(case, run, 0, &bones_table);
+    let b = replay_sample::run::lent(case, run, 1, &buckets_table);
+    let e = replay_sample::run::lent(case, run, 2, &entries_table);
+    let p = replay_sample::run::lent(case, run, 7, &pool_table);
     let bones = &mut bones_table[..n];
     let buckets = &mut buckets_table[..b];
     let entries = &mut entries_table[..e];
@@ -132,11 +133,12 @@ fn rows_into(case: &[u8], root: u64, run: u32, want: &[u8], answer: u32) -> bool
     )
 }
 
-pub(crate) fn read_agrees(case: &[u8], root: u64, run: u32, answer: u32) -> bool {
-    if run < replay_sample::FULL {
-        return rows_into(case, root, run, &case[..0], answer);
-    }
-    rows_into(case, root, run, case, answer)
+pub(crate) fn read_agrees(case: &[u8], root: u64, run: Run, answer: u32) -> bool {
+    let want = match run {
+        Run::Short(_) => &case[..0],
+        Run::Full | Run::Longer => case,
+    };
+    rows_into(case, root, run, want, answer)
 }
 
 // ---- the lookup: its tag and the position that it finds stand behind the two numbers of the check, which is not replayed
@@ -161,5 +163,5 @@ pub(crate) fn lookup_agrees(case: &[u8], root: u64, answer: u32) -> bool {
         graphics: replay_sample::part(case, GRAPHICS),
     };
     let r = lookup::lookup(section, root, tag);
-    looked_as(r, answer, replay_sample::number32(others, POSITION))
+    looked_as(r, answer, replay_sample::number::<u32>(others, POSITION))
 }

@@ -1,2 +1,2 @@
-pub mod Same
 pub mod Numbers
+pub mod Comparing

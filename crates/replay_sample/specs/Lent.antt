@@ -1,6 +1,8 @@
 -- How much of each table a run lends (compare/vectors/README.md). Definitions only.
 use Rattle.std.specs.Prelude.{ℕ, ◌-◌, ◌≤◌, min, ◌≡◌, Bool, true, false, List, eqb, length, take, get_or}
 use Rattle.replay_sample.specs.Parts.{part_of, numbers}
+use Rattle.replay_sample.specs.declared.run.Run.{Run}
+use Rattle.replay_sample.specs.declared.run.Run.TheVariants.{Full, Longer, Short}
 
 -- one number or the other, by a test
 unfoldable pub either : Bool → ℕ → ℕ → ℕ
@@ -11,13 +13,15 @@ either false a b = b
 abbrev pub length_of : List ℕ → ℕ → ℕ
 length_of case t = get_or (numbers 4 (part_of 2 case)) t 0
 
--- How many words of table t, which has `most`, a run lends: 101 all; another number as many as it must have, but in the run of the
--- table's own number one less.
-abbrev pub lent_of : List ℕ → ℕ → ℕ → ℕ → ℕ
-lent_of case run t most = either (eqb run 101) most (min (length_of case t - either (eqb run t) 1 0) most)
+-- How many words of table t, which has `most`, a run lends: all; or as many as it must have, but where the table itself is to be short one
+-- less.
+abbrev pub lent_of : List ℕ → Run → ℕ → ℕ → ℕ
+lent_of case Longer t most = most
+lent_of case Full t most = min (length_of case t) most
+lent_of case (Short s) t most = min (length_of case t - either (eqb s t) 1 0) most
 
 -- r is the number n, and stands for the front of a table. A call that is lent the front asks for the last two.
-pub record Front (n : ℕ) (t : List ℕ) (r : ℕ) : Type 0 where
+pub record Front {A : Type 0} (n : ℕ) (t : List A) (r : ℕ) : Type 0 where
   pub is : r ≡ n
   pub inside : r ≤ length t
   pub front : r ≡ length (take r t)

@@ -1,3 +1,4 @@
 pub mod Parts
+pub mod Run
 pub mod Lent
 pub mod Counts

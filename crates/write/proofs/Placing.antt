@@ -3,24 +3,11 @@ use mathlib.Core.Path.{◌≡◌, refl}
 use Prim.Native.Nat.{ℕ, zero, suc, ◌+◌, ◌*◌, ◌≤◌}
 use native.Mathlib.Nat.{le_refl}
 use native.Mathlib.Omega.{arith}
-use Rattle.format.specs.Layout.{after, pointer, block_size, Starts, starts}
+use Rattle.format.specs.Layout.{after, block_size, Starts, starts}
 use Rattle.write.specs.Placing.{Counts}
 use Rattle.format.specs.Section.{window}
 
--- ---- pointers and sizes
-
-pub pointer_none : (at n : ℕ) → n ≡ 0 → 0 ≡ pointer at n
-unfolding pointer
-pointer_none at n e = rw e
-
-pub pointer-some : (at n : ℕ) → (n ≡ 0 → ⊥) → at ≡ pointer at n
-unfolding pointer
-pointer-some at zero h = absurd (h refl)
-pointer-some at (suc n) h = refl
-
-pub block_size-none : (n : ℕ) → n ≡ 0 → 0 ≡ block_size n
-unfolding block_size
-block_size-none n e = rw e
+-- ---- sizes
 
 pub block_size_lem : (n : ℕ) → (n ≡ 0 → ⊥) → 16 + 80 * n ≡ block_size n
 unfolding block_size

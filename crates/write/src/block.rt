@@ -34,6 +34,7 @@ pub(crate) fn name_bytes(row: &[u32; BONE_WORDS]) -> usize
 }
 
 // The words of a row's record, with the address of its name.
+#[tactic(auto, unfolding(crate::specs::Records::bone_record))]
 fn bone_record(row: &[u32; BONE_WORDS], name: u32) -> [u32; 20]
     ensures answer { result ≡ bone_record row.now name }
 {

@@ -19,6 +19,7 @@ fn halves(lo: usize, hi: usize) -> u32
 }
 
 // The words of the record of n bones, c buckets and k child entries.
+#[tactic(auto, unfolding(crate::specs::Placing::skeleton_words))]
 fn skeleton_words(at: Starts, free: Words4, n: usize, c: usize, k: usize) -> [u32; 28]
     requires { SkeletonCounts (meant_starts at) n c k }
     ensures answer { result ≡ skeleton_words (meant_starts at) (meant_words4 free) n c k }

@@ -20,6 +20,7 @@ pub struct Starts {
 }
 
 // The address of a part of n bytes, rows or words: 0 for an empty part.
+#[tactic(auto, unfolding(format::specs::Layout::pointer))]
 pub(crate) fn pointer(at: usize, n: usize) -> u32
     requires { at ≤ window }
     ensures answer { result ≡ Layout.pointer (base + at) n }
@@ -46,6 +47,7 @@ pub(crate) fn after(at: usize, n: usize) -> usize
 }
 
 // The length of the bones block.
+#[tactic(auto, unfolding(format::specs::Layout::block_size))]
 fn block_size(n: usize) -> usize
     requires { n ≤ 65535 }
     ensures answer { result ≡ block_size n }

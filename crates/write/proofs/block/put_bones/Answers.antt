@@ -1,11 +1,8 @@
 -- `write::block::put_bones` meets its contract. Assumes nothing.
 use mathlib.Core.Path.{refl}
 use native.Mathlib.Omega.{arith}
-use Rattle.write.proofs.Bones.{boning_none, boning_short, boning_small, boning_room, boning_more, boning_all}
+use Rattle.write.proofs.Bones.{boning_short, boning_small, boning_room, boning_more, boning_all}
 use Rattle.write.proofs.block.put_bones.Goals as goal
-
-pub loop-row-init : goal.loop-row-init
-loop-row-init c = boning_none _ _ _ _
 
 pub name_bytes-size-requires : goal.name_bytes-size-requires
 name_bytes-size-requires c = boning_short c.requires c.loop-row.invariant c.loop-row-test.true refl

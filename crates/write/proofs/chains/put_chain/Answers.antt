@@ -4,11 +4,8 @@ use Prim.Native.Nat.{suc, ◌+◌, ◌-◌, ◌*◌, ◌≤◌}
 use native.Mathlib.Nat.{add-zero}
 use native.Mathlib.Omega.{arith}
 use lib.ListN.{length}
-use Rattle.write.proofs.Linked.{row-word, chaining_none, chaining_room, chaining_more, chaining_all}
+use Rattle.write.proofs.Linked.{row-word, chaining_room, chaining_more, chaining_all}
 use Rattle.write.proofs.chains.put_chain.Goals as goal
-
-pub loop-next-init : goal.loop-next-init
-loop-next-init c = chaining_none _ _ _ _ c.requires
 
 pub put_entry-requires : goal.put_entry-requires
 put_entry-requires c =

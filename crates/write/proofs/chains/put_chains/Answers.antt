@@ -1,10 +1,7 @@
 -- `write::chains::put_chains` meets its contract. Assumes nothing.
 use native.Mathlib.Omega.{arith}
-use Rattle.write.proofs.Linked.{buckets-none, pointer-room, chain-room, buckets-more, buckets-all}
+use Rattle.write.proofs.Linked.{pointer-room, chain-room, buckets-more, buckets-all}
 use Rattle.write.proofs.chains.put_chains.Goals as goal
-
-pub loop-b-init : goal.loop-b-init
-loop-b-init c = buckets-none _ _ _ _ _
 
 pub put_pointer-requires : goal.put_pointer-requires
 put_pointer-requires c = pointer-room _ _ _ _ c.requires c.loop-b.invariant c.loop-b-test.true

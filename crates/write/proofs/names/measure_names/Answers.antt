@@ -1,11 +1,8 @@
 -- `write::names::measure_names` meets its contract. Assumes nothing.
 use native.Mathlib.Omega.{arith}
-use Rattle.write.proofs.Naming.{measuring_none, measuring_bad, measuring_short, measuring_more, measuring_all}
+use Rattle.write.proofs.Naming.{measuring_bad, measuring_short, measuring_more, measuring_all}
 use mathlib.Core.Path.{refl}
 use Rattle.write.proofs.names.measure_names.Goals as goal
-
-pub loop-row-init : goal.loop-row-init
-loop-row-init c = measuring_none _ _
 
 pub returns-then-not-good_name : goal.returns-then-not-good_name
 returns-then-not-good_name c = record { answer = measuring_bad c.loop-row.invariant c.loop-row-test.true refl c.good_name.ensures.answer c.if-not-good_name.true }

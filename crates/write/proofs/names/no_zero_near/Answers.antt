@@ -1,10 +1,7 @@
 -- `write::names::no_zero_near` meets its contract. Assumes nothing.
-use Rattle.write.proofs.Naming.{passed_none, chunk_mask, near-more, near-all}
+use Rattle.write.proofs.Naming.{chunk_mask, near-more, near-all}
 use Rattle.std.proofs.Common.{◌≡◌, rules}
 use Rattle.write.proofs.names.no_zero_near.Goals as goal
-
-pub loop-i-init : goal.loop-i-init
-loop-i-init c = passed_none _
 
 pub loop-i-preserved : goal.loop-i-preserved
 loop-i-preserved c =

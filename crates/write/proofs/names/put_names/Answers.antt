@@ -1,10 +1,7 @@
 -- `write::names::put_names` meets its contract. Assumes nothing.
 use mathlib.Core.Path.{refl}
-use Rattle.write.proofs.Naming.{naming-none, naming-room, naming-more, naming-all}
+use Rattle.write.proofs.Naming.{naming-room, naming-more, naming-all}
 use Rattle.write.proofs.names.put_names.Goals as goal
-
-pub loop-row-init : goal.loop-row-init
-loop-row-init c = naming-none _ _ _
 
 pub put_name-to-requires : goal.put_name-to-requires
 put_name-to-requires c = naming-room c.requires c.loop-row.invariant c.loop-row-test.true refl

@@ -1,7 +1,7 @@
 -- `write::words::put_at_least` meets its contract. Assumes nothing.
 use native.Mathlib.Omega.{arith}
 use lib.Seq.{length-take-le}
-use Rattle.write.proofs.Runs.{just_stored, more-stored}
+use Rattle.write.proofs.Runs.{more-stored}
 use Rattle.write.proofs.words.put_at_least.Goals as goal
 
 pub put_bytes-requires : goal.put_bytes-requires
@@ -10,9 +10,4 @@ put_bytes-requires c = omega (arith, length-take-le 32 c.args.s.now c.if-s-ge-CH
 pub returns-then-d-at-ge-CHUNK : goal.returns-then-d-at-ge-CHUNK
 returns-then-d-at-ge-CHUNK c = record {
   bytes = more-stored _ _ _ _ _ c.requires.0 32 c.if-k-le-CHUNK.true c.if-s-ge-CHUNK.true (omega arith) c.put_bytes.ensures.bytes;
-}
-
-pub returns : goal.returns
-returns c = record {
-  bytes = just_stored _ _ _ _ (omega (arith, length-take-le c.args.k c.args.s.now c.requires.0)) c.put_bytes-2.ensures.bytes;
 }
