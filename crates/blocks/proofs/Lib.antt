@@ -14,4 +14,4 @@ pub mod RowWords
 pub mod Table
 pub mod Storing
 pub mod Bound
-pub mod Taking
+pub mod Cursors

@@ -1,7 +1,7 @@
 -- The laws of storing a row of the pool: the ways out of `put`, and what a caller learns of a store, of the pool and of the format's
 -- tables. What the words of a row hold after a store is in `RowWords`. Assumes nothing.
 use mathlib.Core.Path.{◌≡◌, refl, sym, ap, subst, ◌∙◌}
-use Rattle.std.specs.Prelude.{None, Some}
+use Rattle.std.specs.Prelude.{Option, None, Some, Result, Ok, Err}
 use mathlib.Core.List.{List, [], ◌∷◌, ◌++◌}
 use mathlib.Core.Logic.{⊎_elim}
 use Prim.Native.Nat.{ℕ, suc, ◌+◌, ◌*◌, ◌/◌, ◌-◌, ◌<◌}
@@ -10,9 +10,10 @@ use borrow.Author.Tests.{lt-ltb, le-ltb}
 use lib.ListN.{length, get_or, length-append}
 use Rattle.format.specs.Result.{Res, refused, done, ◌>>=◌}
 use Rattle.format.specs.Tables.{Kind, Rows, Pooled, pooled, Tables, Room, with_pool, find, replace, put}
-use Rattle.blocks.specs.declared.pool.Found.{Found}
-use Rattle.blocks.specs.declared.pool.Stored.{Stored}
-use Rattle.blocks.specs.declared.pool.Stored.TheVariants.{Done, Full}
+use Rattle.format.specs.Refusal.{number}
+use Rattle.format.specs.declared.Refusal.{Refusal}
+use Rattle.format.specs.declared.Refusal.TheVariants.{TableTooShort}
+use Rattle.blocks.specs.declared.pool.Pooled as ours
 use Rattle.blocks.specs.Tree.{linkable}
 use Rattle.blocks.specs.Hashed.{pool_rows, key, links, val, path_in, HashHolds, Represents, NearPassed, PathLeft, FreeAt}
 use Rattle.blocks.specs.Hashed.{PathFound, PlacedAt, near, along, untaken, beyond}
@@ -48,7 +49,7 @@ module _ (t : List ℕ) (p : Pooled) where
       (le-or-lt (linkable (pool_rows t)) k)
 
   -- a table whose search ends at the number of rows is full
-  pub stores-full : (i : ℕ) → PlacedAt t p.address i → i ≡ pool_rows t → Stores p Full t t
+  pub stores-full : (i : ℕ) → PlacedAt t p.address i → i ≡ pool_rows t → Stores p (Err TableTooShort) t t
   stores-full i g s =
       record {
         entered =
@@ -93,7 +94,7 @@ module _ (t : List ℕ) (p : Pooled) (r : ℕ) (room : r < pool_rows t) (t'' : L
 
         -- the address has the row
         pub entered_again : key t r ≡ suc p.address → ((j : ℕ) → j < pool_rows t → key t j ≡ suc p.address → j ≡ r) →
-            Entered n p q Done t t''
+            Entered n p q (Ok tt) t t''
         entered_again u only =
             let found : find p.address q ≡ Some (val t r) = (holds_rows h).here p.address r room u in
             let stands : find p.address q ≡ None → ⊥ = λ e. let z : ◌≡◌ {A = ℕ} 0 1 = cc in omega arith in
@@ -111,7 +112,7 @@ module _ (t : List ℕ) (p : Pooled) (r : ℕ) (room : r < pool_rows t) (t'' : L
             }
 
         -- the row was free, and no row had the address
-        pub entered-new : key t r ≡ 0 → ((j : ℕ) → j < pool_rows t → key t j ≡ suc p.address → ⊥) → Entered n p q Done t t''
+        pub entered-new : key t r ≡ 0 → ((j : ℕ) → j < pool_rows t → key t j ≡ suc p.address → ⊥) → Entered n p q (Ok tt) t t''
         entered-new z none_has =
             let absent : find p.address q ≡ None = (holds_rows h).nowhere p.address none_has in
             let longer : length (q ++ (p ∷ [])) ≡ suc (length q) = simp length-append (omega arith) in
@@ -144,19 +145,19 @@ module _ (t : List ℕ) (p : Pooled) (i : ℕ) (g : PlacedAt t p.address i) (roo
       (key-same t i p room) (val_same t i p room) (key-other t i p) (val-other t i p) (links-kept t i p room)
       (placed_reaches t p.address i g room (holds_rows h))
 
-  again : {n : ℕ} {q : List Pooled} (h : Represents t n q) → 0 < key t i → Entered n p q Done t t''
+  again : {n : ℕ} {q : List Pooled} (h : Represents t n q) → 0 < key t i → Entered n p q (Ok tt) t t''
   again {n} {q} h u =
       let own : key t i ≡ suc p.address = row-own t p.address i g room u in
       entered_again t p i room t'' (length-with_row t i p) (key-same t i p room) (val_same t i p room) (key-other t i p)
       (val-other t i p) h (leads-same h) own
       (λ j l k. unique (pool_rows t) (key t) (links t) (val t) q (holds_rows h) p.address j i l room k own)
 
-  new : {n : ℕ} {q : List Pooled} (h : Represents t n q) → key t i ≡ 0 → Entered n p q Done t t''
+  new : {n : ℕ} {q : List Pooled} (h : Represents t n q) → key t i ≡ 0 → Entered n p q (Ok tt) t t''
   new h z =
       entered-new t p i room t'' (length-with_row t i p) (key-same t i p room) (val_same t i p room) (key-other t i p)
       (val-other t i p) h (leads-same h) z (placed_absent t p.address i g (holds_rows h) (λ l. z))
 
-  pub stores-done : Stores p Done t t''
+  pub stores-done : Stores p (Ok tt) t t''
   stores-done = record { entered = λ h. ⊎_elim (again h) (λ z. new h (omega arith)) (le-or-lt 1 (key t i)) }
 
 -- ---- the free row that the tree takes
@@ -263,7 +264,7 @@ module _ (t : List ℕ) (p : Pooled) (f : ℕ) (at s : ℕ) where
             (λ d j e k. missed d j e (key-address t j p.address k)) at s (new₃ L.row some-row linked side apart)
             (count₃ L.row some-row linked side) (other₃ L.row some-row linked side) L.depth L.ends
 
-        taken-new : Entered n p q Done t u₃
+        taken-new : Entered n p q (Ok tt) t u₃
         taken-new =
             entered-new t p f room u₃ (size₃ L.row some-row linked side) (same_key L.row some-row linked side)
             (same-val L.row some-row linked side) (other_key L.row some-row linked side) (other-val L.row some-row linked side) h
@@ -271,7 +272,7 @@ module _ (t : List ℕ) (p : Pooled) (f : ℕ) (at s : ℕ) where
             (tree_absent (pool_rows t) (key t) (links t) (val t) q (holds_rows h) p.address full
             (λ d j e k. missed d j e (key-address t j p.address k)) f linked (F.free linked))
 
-      pub stores-taken : Stores p Done t u₃
+      pub stores-taken : Stores p (Ok tt) t u₃
       stores-taken = record { entered = λ h. taken-new h }
 
 -- ---- the ways out of `put`, by the number at which its search ended
@@ -290,12 +291,12 @@ free-low t a i (beyond f h) o = absurd (omega (arith, h.scanned.high))
 
 module _ (t : List ℕ) (p : Pooled) where
   -- a table of no rows
-  pub stores-none : pool_rows t ≡ 0 → Stores p Full t t
+  pub stores-none : pool_rows t ≡ 0 → Stores p (Err TableTooShort) t t
   stores-none z = stores-full t p (pool_rows t) (rw z (placed-nowhere t p.address z)) refl
 
   pub stores-linked :
       (i : ℕ) → PlacedAt t p.address i → pool_rows t < i → (u : List ℕ) → Linked (i - pool_rows t - 1) p.address t u →
-      Stores p Done t (with_row u (i - pool_rows t - 1) p)
+      Stores p (Ok tt) t (with_row u (i - pool_rows t - 1) p)
   stores-linked i (near l x f e) o u k = absurd (omega arith)
   stores-linked i (along f h) o u k = absurd (omega (arith, path-row t p.address i h))
   stores-linked i (untaken j e f h) o u k =
@@ -308,41 +309,41 @@ module _ (t : List ℕ) (p : Pooled) where
 
 -- ---- for callers: what a store tells of the pool
 
-module _ {p : Pooled} {r : Stored} {t₀ t : List ℕ} (s : Stores p r t₀ t) {n : ℕ} {q : List Pooled} (h : Represents t₀ n q) where
+module _ {p : Pooled} {r : Result (Unit {0}) Refusal} {t₀ t : List ℕ} (s : Stores p r t₀ t) {n : ℕ} {q : List Pooled} (h : Represents t₀ n q) where
   -- the pool after the store
   abbrev pub after : List Pooled
   after = (s.entered h).after
 
-  pub put-fits : r ≡ Done → enter n p q ≡ done after
-  put-fits e = sym (s.entered h).answer ∙ ap (λ (x : Stored). meant_stored x after) e
+  pub put-fits : {u : Unit {0}} → r ≡ Ok u → enter n p q ≡ done after
+  put-fits e = sym (s.entered h).answer ∙ ap (λ (x : Result (Unit {0}) Refusal). meant_stored x after) e
 
-  pub put-done : r ≡ Done → Represents t n after
-  put-done e = subst (λ (x : Stored). Left x n after t₀ t) e (s.entered h).table
+  pub put-done : {u : Unit {0}} → r ≡ Ok u → Represents t n after
+  put-done e = subst (λ (x : Result (Unit {0}) Refusal). Left x n after t₀ t) e (s.entered h).table
 
-  pub put_full : r ≡ Full → enter n p q ≡ refused 1
-  put_full e = sym (s.entered h).answer ∙ ap (λ (x : Stored). meant_stored x after) e
+  pub put_full : {x : Refusal} → r ≡ Err x → enter n p q ≡ refused (number x)
+  put_full e = sym (s.entered h).answer ∙ ap (λ (x : Result (Unit {0}) Refusal). meant_stored x after) e
 
-  pub put_kept : r ≡ Full → t ≡ t₀
-  put_kept e = subst (λ (x : Stored). Left x n after t₀ t) e (s.entered h).table
+  pub put_kept : {x : Refusal} → r ≡ Err x → t ≡ t₀
+  put_kept e = subst (λ (x : Result (Unit {0}) Refusal). Left x n after t₀ t) e (s.entered h).table
 
   -- what was pooled is found, and every other address as before
-  pub find-put-same : {f : Found} → r ≡ Done → Finds t p.address f → meant_found p.address f ≡ Some p
+  pub find-put-same : {f : Option ours.Pooled} {u : Unit {0}} → r ≡ Ok u → Finds t p.address f → meant_found p.address f ≡ Some p
   find-put-same e m = m.found (put-done e) ∙ find-enter-same n p q (put-fits e)
 
-  pub find-put-other : {a : ℕ} {f : Found} → r ≡ Done → (p.address ≡ a → ⊥) → Finds t a f → meant_found a f ≡ find a q
+  pub find-put-other : {a : ℕ} {f : Option ours.Pooled} {u : Unit {0}} → r ≡ Ok u → (p.address ≡ a → ⊥) → Finds t a f → meant_found a f ≡ find a q
   find-put-other {a} e d m = m.found (put-done e) ∙ find-enter-other n p q (put-fits e) a d
 
 -- ---- and of the tables of a reading, whose pool the table held: the format's `put`
 
 module _
-    (room : Room) (u : Tables) (va : ℕ) (k : Kind) (x : Rows) {r : Stored} {t₀ t : List ℕ} (s : Stores (pooled va k x) r t₀ t)
+    (room : Room) (u : Tables) (va : ℕ) (k : Kind) (x : Rows) {r : Result (Unit {0}) Refusal} {t₀ t : List ℕ} (s : Stores (pooled va k x) r t₀ t)
     (h : Represents t₀ room.pool u.pool)
   where
     abbrev in_tables : Res (List Pooled) → Res Tables
     in_tables w = w >>= λ q. done (with_pool q u)
 
-    pub tables-done : r ≡ Done → put room va k x u ≡ done (with_pool (after s h) u)
+    pub tables-done : {v : Unit {0}} → r ≡ Ok v → put room va k x u ≡ done (with_pool (after s h) u)
     tables-done e = put-enter room (pooled va k x) u ∙ ap in_tables (put-fits s h e)
 
-    pub tables-full : r ≡ Full → put room va k x u ≡ refused 1
+    pub tables-full : {y : Refusal} → r ≡ Err y → put room va k x u ≡ refused (number y)
     tables-full e = put-enter room (pooled va k x) u ∙ ap in_tables (put_full s h e)

@@ -2,7 +2,7 @@
 -- and `cached_as`. Storing a row is in `Storing`. Assumes nothing.
 use mathlib.Core.Path.{◌≡◌, refl, sym, ap, subst, ◌∙◌}
 use mathlib.Core.Bool.{true, false}
-use Rattle.std.specs.Prelude.{None, Some}
+use Rattle.std.specs.Prelude.{Option, None, Some, Result, Ok, Err}
 use mathlib.Core.List.{List, []}
 use mathlib.Core.Logic.{◌⊎◌, inl, inr, ⊎_elim}
 use Prim.Native.Nat.{ℕ, zero, suc, ◌+◌, ◌*◌, ◌/◌, ◌<◌, ◌≤◌}
@@ -14,10 +14,9 @@ use Rattle.format.specs.Rows.{cleared}
 use Rattle.format.specs.Tables.{Kind, rows, Pooled, pooled, find, same_kind, as_kind}
 use Rattle.blocks.specs.Kinds.{meant_kind, kind_from}
 use Rattle.blocks.specs.declared.kinds.Kind as ours
-use Rattle.blocks.specs.declared.pool.Found.{Found}
-use Rattle.blocks.specs.declared.pool.Found.TheVariants.{Nothing as nothing-found, At as found_at}
-use Rattle.blocks.specs.declared.pool.Cached.{Cached}
-use Rattle.blocks.specs.declared.pool.Cached.TheVariants.{Nothing as nothing-cached, At as cached-at, Refused}
+use Rattle.format.specs.declared.Refusal.{Refusal}
+use Rattle.blocks.specs.declared.pool.Pooled as our
+use Rattle.blocks.specs.declared.pool.Stored.{Stored}
 use Rattle.blocks.specs.Tree.{kind_in, link_in, linkable, path_at}
 use Rattle.blocks.specs.Hashed.{pool_rows, code_at, key, links, val, used, HashHolds, Represents, PlacedAt}
 use Rattle.blocks.specs.Hashed.{near, along, untaken, beyond, Reaches}
@@ -161,7 +160,8 @@ module _ (t : List ℕ) (a i : ℕ) where
 module _ (t : List ℕ) (a i : ℕ) (p : PlacedAt t a i) where
   pub finds-here :
       (k : ours.Kind) → i < pool_rows t → (kind_in (code_at t i) ≡ 0 → ⊥) → meant_kind k ≡ kind_from (kind_in (code_at t i)) →
-      Finds t a (found_at k (get_or t (4 * i + 2) 0) (get_or t (4 * i + 3) 0))
+      Finds t a
+      (Some (record { kind = k; stored = record { first = get_or t (4 * i + 2) 0; count = get_or t (4 * i + 3) 0 } }))
   unfolding val
   finds-here k l n e =
       let used : key t i ≡ suc (get_or t (4 * i) 0) = key-used t i n in
@@ -177,38 +177,38 @@ module _ (t : List ℕ) (a i : ℕ) (p : PlacedAt t a i) where
             ∙ sym ((holds_rows h).here a i l own);
       }
 
-  pub finds-free : kind_in (code_at t i) ≡ 0 → Finds t a nothing-found
+  pub finds-free : kind_in (code_at t i) ≡ 0 → Finds t a None
   finds-free e =
       record { found = λ h. sym ((holds_rows h).nowhere a (placed_absent t a i p (holds_rows h) (λ l. key-free t i e))) }
 
-  pub finds_past : pool_rows t ≤ i → Finds t a nothing-found
+  pub finds_past : pool_rows t ≤ i → Finds t a None
   finds_past l =
       record { found = λ h. sym ((holds_rows h).nowhere a (placed_absent t a i p (holds_rows h) (λ o. absurd (omega arith)))) }
 
 -- nothing is found in a cleared table
-none_found : (a : ℕ) (r : Found) → meant_found a r ≡ None → r ≡ nothing-found
-none_found a nothing-found e = refl
-none_found a (found_at k f c) e = let z : ◌≡◌ {A = ℕ} 0 1 = cc in absurd (omega arith)
+none_found : (a : ℕ) (r : Option our.Pooled) → meant_found a r ≡ None → r ≡ None
+none_found a None e = refl
+none_found a (Some p) e = let z : ◌≡◌ {A = ℕ} 0 1 = cc in absurd (omega arith)
 
-pub find-cleared : (n : ℕ) {a : ℕ} {r : Found} → Finds (cleared n) a r → r ≡ nothing-found
+pub find-cleared : (n : ℕ) {a : ℕ} {r : Option our.Pooled} → Finds (cleared n) a r → r ≡ None
 unfolding find
 find-cleared n {a} {r} m = none_found a r (m.found (represents_zero n))
 
 -- ---- cached_as
 
-module _ (t : List ℕ) (k : Kind) (a : ℕ) {r : Found} (m : Finds t a r) where
-  cached : (w : Cached) → meant_cached w ≡ as_kind k (meant_found a r) → FindsAs t k a w
+module _ (t : List ℕ) (k : Kind) (a : ℕ) {r : Option our.Pooled} (m : Finds t a r) where
+  cached : (w : Result (Option Stored) Refusal) → meant_cached w ≡ as_kind k (meant_found a r) → FindsAs t k a w
   cached w v = record { found = λ h. v ∙ ap (as_kind k) (m.found h) }
 
-  pub cached_nothing : r ≡ nothing-found → FindsAs t k a nothing-cached
+  pub cached_nothing : r ≡ None → FindsAs t k a (Ok None)
   unfolding as_kind
-  cached_nothing e = cached nothing-cached (rw e refl)
+  cached_nothing e = cached (Ok None) (rw e refl)
 
-  module _ (l : ours.Kind) (f c : ℕ) (e : r ≡ found_at l f c) where
-    pub cached_here : same_kind (meant_kind l) k ≡ true → FindsAs t k a (cached-at f c)
+  module _ (p : our.Pooled) (e : r ≡ Some p) where
+    pub cached_here : same_kind (meant_kind p.kind) k ≡ true → FindsAs t k a (Ok (Some p.stored))
     unfolding as_kind
-    cached_here s = cached (cached-at f c) (rw e (simp s))
+    cached_here s = cached (Ok (Some p.stored)) (rw e (simp s))
 
-    pub cached_other : same_kind (meant_kind l) k ≡ false → FindsAs t k a (Refused OtherKind)
+    pub cached_other : same_kind (meant_kind p.kind) k ≡ false → FindsAs t k a (Err OtherKind)
     unfolding as_kind
-    cached_other s = cached (Refused OtherKind) (rw e (simp s))
+    cached_other s = cached (Err OtherKind) (rw e (simp s))

@@ -1,26 +1,22 @@
 -- A cursor: what each of its reads gives, and what it leaves (docs/FORMAT.md, "Finding bytes": "A cursor read past the end yields zero and
 -- marks the overrun"). Definitions only.
-use Rattle.std.specs.Prelude.{ℕ, ◌+◌, ◌-◌, ◌^◌, min, Bool, false, not, ◌||◌, List}
+use Rattle.std.specs.Prelude.{ℕ, ◌+◌, ◌-◌, ◌^◌, min, false, not, ◌||◌, List, [], take, drop}
 use Rattle.std.specs.Borrow.{Bor}
-use Rattle.format.specs.Result.{Res, refused, done, need}
-use Rattle.format.specs.Refusal.{number}
-use Rattle.format.specs.Field.{field, stands, or_zero}
+use Rattle.format.specs.Result.{Res, need}
+use Rattle.format.specs.Field.{field, stands, or_zero, which_list}
 use Rattle.format.specs.declared.Words3.{Words3}
 use Rattle.format.specs.declared.Words4.{Words4}
 use Rattle.blocks.specs.declared.cursor.Cursor.{Cursor}
-use Rattle.blocks.specs.declared.cursor.After.{After}
-use Rattle.blocks.specs.declared.cursor.CursorCheck.{CursorCheck}
-use Rattle.blocks.specs.declared.cursor.CursorCheck.TheVariants.{Within, Refused}
 
 -- a sum of 64 bits, or the greatest number of 64 bits where it does not fit
 abbrev pub saturating_add : ℕ → ℕ → ℕ
 saturating_add m n = min (m + n) (2 ^ 64 - 1)
 
--- ---- over a slice, a position in it and a mark
+-- ---- over a slice and a position in it
 
--- where a read of k bytes leaves the position and the mark: it moves by k, past the end too, and marks where not all k bytes stand
-unfoldable pub after_read : ℕ → List ℕ → ℕ → Bool → After
-after_read k s at mark = record { pos = saturating_add at k; overrun = mark || not (stands k s at) }
+-- the k bytes from a position on, or none where not all of them stand
+abbrev pub standing_bytes : ℕ → List ℕ → ℕ → List ℕ
+standing_bytes k s at = which_list (stands k s at) (take k (drop at s)) []
 
 -- the word at an offset, or 0 where not all k bytes of the whole read, from `at` on, stand
 abbrev pub word_within : ℕ → List ℕ → ℕ → ℕ → ℕ
@@ -35,11 +31,6 @@ unfoldable pub words4_at : List ℕ → ℕ → Words4
 words4_at s at =
     record { x = word_within 16 s at at; y = word_within 16 s at (at + 4); z = word_within 16 s at (at + 8); w = word_within 16 s at (at + 12) }
 
--- what a check tells: nothing, or the refusal's number
-abbrev pub check_of : CursorCheck → Res (Unit {0})
-check_of Within = done tt
-check_of (Refused r) = refused (number r)
-
 -- ---- over a cursor
 
 -- a fresh cursor: the mark is not set
@@ -50,11 +41,15 @@ cursor_at s pos base = record { «data» = s; pos = pos; base = base; overrun = 
 abbrev pub read_by : {X : Type 0} → (List ℕ → ℕ → X) → Cursor → X
 read_by f c = f c.«data».now c.pos
 
--- the cursor behind a read of k bytes
+-- the cursor behind a read of k bytes: it moves by k, past the end too, and marks where not all k bytes stand
 abbrev pub taken : ℕ → Cursor → Cursor
 taken k c =
-    let a = after_read k c.«data».now c.pos c.overrun in
-    record { «data» = c.«data»; pos = a.pos; base = c.base; overrun = a.overrun }
+    record {
+      «data» = c.«data»;
+      pos = saturating_add c.pos k;
+      base = c.base;
+      overrun = c.overrun || not (stands k c.«data».now c.pos);
+    }
 
 -- the cursor n bytes further on, its mark as it was
 abbrev pub skipped : ℕ → Cursor → Cursor

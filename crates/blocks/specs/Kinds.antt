@@ -1,5 +1,5 @@
 -- Our kinds as the definitions have them, and the word that stands for each in a row of the pool. Definitions only.
-use Rattle.std.specs.Prelude.{ℕ, cond, eqb}
+use Rattle.std.specs.Prelude.{ℕ, Bool, true, false, cond, eqb}
 use Rattle.format.specs.Tables as Tables
 use Rattle.format.specs.Tables.{inverse_table, local_table, parents_table, children_table}
 use Rattle.format.specs.Tables.{skeleton, buckets, entry, block, bone, string, list}
@@ -22,6 +22,13 @@ meant_kind Block = block
 meant_kind Bone = bone
 meant_kind String = string
 meant_kind (List t) = list (meant_table t)
+
+-- whether a list's table takes matrices
+abbrev pub of_matrices : Tables.ListTable → Bool
+of_matrices inverse_table = true
+of_matrices local_table = true
+of_matrices parents_table = false
+of_matrices children_table = false
 
 -- ---- the word in a row of the pool
 

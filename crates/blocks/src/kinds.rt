@@ -1,10 +1,10 @@
 // What an address can be read as (docs/FORMAT.md, "Finding bytes": "Both matrix lists are one kind, parents and children another").
 ghost use Rattle.std.specs.Prelude.{◌≡◌};
-ghost use Rattle.format.specs.Tables.{kind_number, same_kind};
-ghost use Rattle.blocks.specs.Kinds.{meant_kind, kind_code, kind_from};
+ghost use Rattle.format.specs.Tables.{same_kind};
+ghost use Rattle.blocks.specs.Kinds.{meant_table, meant_kind, kind_code, kind_from, of_matrices};
 
 // The four tables that a plain array is read into.
-#[derive(Clone, Copy)]
+#[derive(Clone, Copy, PartialEq, Eq)]
 pub enum ListTable {
     Inverse,
     Local,
@@ -12,7 +12,16 @@ pub enum ListTable {
     Children,
 }
 
-#[derive(Clone, Copy)]
+impl ListTable {
+    // Whether it takes matrices; else it takes indices.
+    fn of_matrices(self) -> bool
+        ensures { result ≡ of_matrices (meant_table self) }
+    {
+        matches!(self, ListTable::Inverse | ListTable::Local)
+    }
+}
+
+#[derive(Clone, Copy, PartialEq, Eq)]
 pub enum Kind {
     Skeleton,
     Buckets,
@@ -26,28 +35,29 @@ pub enum Kind {
     List(ListTable),
 }
 
-impl Kind {
-    // The word that stands for the kind in a row of the pool, never 0. A list's tells its table too.
-    pub fn code(self) -> u64
-        ensures answer { result ≡ kind_code (meant_kind self) }
-    {
-        match self {
+// The word that stands for the kind in a row of the pool, never 0. A list's tells its table too.
+impl From<Kind> for u64 {
+    ghost from_gives = { λ k n. n ≡ kind_code (meant_kind k) };
+
+    fn from(k: Kind) -> u64 {
+        match k {
             Kind::Skeleton => 1,
             Kind::Buckets => 2,
             Kind::Entry => 3,
             Kind::Block => 4,
             Kind::Bone => 5,
             Kind::String => 6,
-            Kind::List(t) => match t {
-                ListTable::Inverse => 7,
-                ListTable::Local => 8,
-                ListTable::Parents => 9,
-                ListTable::Children => 10,
-            },
+            Kind::List(ListTable::Inverse) => 7,
+            Kind::List(ListTable::Local) => 8,
+            Kind::List(ListTable::Parents) => 9,
+            Kind::List(ListTable::Children) => 10,
         }
     }
+}
 
+impl Kind {
     // The kind that a word stands for; one that is no kind's code stands for the last.
+    #[tactic(auto, unfolding(crate::specs::Kinds::kind_from))]
     pub fn from_code(code: u64) -> Kind
         ensures answer { meant_kind result ≡ kind_from code }
     {
@@ -65,30 +75,13 @@ impl Kind {
         }
     }
 
-    // The same number for all that is one kind.
-    fn number(self) -> u64
-        ensures answer { result ≡ kind_number (meant_kind self) }
-    {
-        match self {
-            Kind::Skeleton => 1,
-            Kind::Buckets => 2,
-            Kind::Entry => 3,
-            Kind::Block => 4,
-            Kind::Bone => 5,
-            Kind::String => 6,
-            Kind::List(t) => match t {
-                ListTable::Inverse => 7,
-                ListTable::Local => 7,
-                ListTable::Parents => 8,
-                ListTable::Children => 8,
-            },
-        }
-    }
-
-    // Whether two are one kind.
+    // Whether two are one kind: lists are where both are of matrices, or both of indices.
     pub fn same(self, other: Kind) -> bool
         ensures answer { result ≡ same_kind (meant_kind self) (meant_kind other) }
     {
-        self.number() == other.number()
+        match (self, other) {
+            (Kind::List(mine), Kind::List(its)) => mine.of_matrices() == its.of_matrices(),
+            _ => self == other,
+        }
     }
 }

@@ -1,6 +1,6 @@
 // Where an address leads (docs/FORMAT.md, "Finding bytes"; `section`, `slice` and `cursor` of `src/blocks/mod.rs`). A section is
 // lent as its two halves, the system bytes and the graphics bytes.
-ghost use Rattle.std.specs.Prelude.{◌≡◌};
+ghost use Rattle.std.specs.Prelude.{◌≡◌, length, IfOk};
 ghost use Rattle.format.specs.Refusal.{outcome_by};
 ghost use Rattle.format.specs.Section.{part, array, or_none, spot};
 ghost use Rattle.blocks.specs.Places.{section, section_of, lent, rest, spot_at, Locates};
@@ -40,6 +40,7 @@ impl<'a> Section<'a> {
     #[tactic(auto, unfolding(format::specs::Section::spot, format::specs::Section::part))]
     pub fn slice(self, va: u64, n: usize) -> Result<&'a [u8], Refusal>
         ensures answer { outcome_by lent result ≡ part (section_of self.entry) va n }
+        ensures size { IfOk result (λ bytes. length bytes.now ≡ n) }
     {
         let (half, offset) = self.half(va)?;
         if !fields::stands(half, offset, n) {
@@ -52,6 +53,7 @@ impl<'a> Section<'a> {
     #[tactic(auto, unfolding(format::specs::Section::array))]
     pub fn array(self, va: u64, n: usize) -> Result<&'a [u8], Refusal>
         ensures answer { outcome_by lent result ≡ array (section_of self.entry) va n }
+        ensures size { IfOk result (λ bytes. length bytes.now ≡ n) }
     {
         if n == 0 {
             return Ok(&[]);

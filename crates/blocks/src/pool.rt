@@ -14,30 +14,18 @@ use crate::tree;
 use crate::tree::Ended;
 use format::{POOL_WORDS, Refusal};
 
+// Where what was read is stored: its first row and how many; of a name, its address and its size.
+#[derive(Clone, Copy, PartialEq, Eq)]
+pub struct Stored {
+    pub first: u64,
+    pub count: u64,
+}
+
 // What was read at an address.
-#[derive(Clone, Copy)]
-pub enum Found {
-    Nothing,
-    // the kind, and the first and the count of what is stored
-    At(Kind, u64, u64),
-}
-
-// What was read at an address as a kind.
-#[derive(Clone, Copy)]
-pub enum Cached {
-    Nothing,
-    // the first and the count of what is stored
-    At(u64, u64),
-    // 12: another kind was read there
-    Refused(Refusal),
-}
-
-// Whether a row was stored.
-#[derive(Clone, Copy)]
-pub enum Stored {
-    Done,
-    // 1: no row is free, and the address has none; the table is as it was
-    Full,
+#[derive(Clone, Copy, PartialEq, Eq)]
+pub struct Pooled {
+    pub kind: Kind,
+    pub stored: Stored,
 }
 
 // How many rows are searched from the home on, before the tree.
@@ -141,93 +129,94 @@ pub fn place(pool: &[u64], va: u64) -> usize
 }
 
 // What stands in row i, where the search for an address ended.
-fn row_at(pool: &[u64], i: usize) -> Found
+fn row_at(pool: &[u64], i: usize) -> Option<Pooled>
     ensures { FindsAt pool.now i result }
 {
-    if i < pool.len() / POOL_WORDS {
-        let code = pool[POOL_WORDS * i + 1] % 16;
-        if code != 0 {
-            let first = pool[POOL_WORDS * i + 2];
-            let count = pool[POOL_WORDS * i + 3];
-            return Found::At(Kind::from_code(code), first, count);
-        }
+    if i >= pool.len() / POOL_WORDS {
+        return None;
     }
-    Found::Nothing
+    let code = tree::kind_in(pool[POOL_WORDS * i + 1]);
+    if code == 0 {
+        return None;
+    }
+    Some(Pooled {
+        kind: Kind::from_code(code),
+        stored: Stored {
+            first: pool[POOL_WORDS * i + 2],
+            count: pool[POOL_WORDS * i + 3],
+        },
+    })
 }
 
 // What was read at an address.
-pub fn find(pool: &[u64], va: u64) -> Found
+pub fn find(pool: &[u64], va: u64) -> Option<Pooled>
     ensures answer { Finds pool.now va result }
 {
     row_at(pool, place(pool, va))
 }
 
 // What was read as a kind at an address whose search ended at row i; 12 where another kind was.
-pub fn cached_at(pool: &[u64], kind: Kind, i: usize) -> Cached
+pub fn cached_at(pool: &[u64], kind: Kind, i: usize) -> Result<Option<Stored>, Refusal>
     ensures answer { FindsAsAt pool.now (meant_kind kind) i result }
 {
     match row_at(pool, i) {
-        Found::Nothing => Cached::Nothing,
-        Found::At(k, first, count) => {
-            if k.same(kind) {
-                return Cached::At(first, count);
-            }
-            Cached::Refused(Refusal::OtherKind)
-        }
+        None => Ok(None),
+        Some(pooled) if pooled.kind.same(kind) => Ok(Some(pooled.stored)),
+        Some(_) => Err(Refusal::OtherKind),
     }
 }
 
 // What was read at an address as a kind; 12 where another kind was.
-pub fn cached_as(pool: &[u64], kind: Kind, va: u64) -> Cached
+pub fn cached_as(pool: &[u64], kind: Kind, va: u64) -> Result<Option<Stored>, Refusal>
     ensures answer { FindsAs pool.now (meant_kind kind) va result }
 {
     cached_at(pool, kind, place(pool, va))
 }
 
 // Stores row i. Its links stay.
-fn store(pool: &mut [u64], i: usize, va: u64, kind: Kind, first: u64, count: u64)
+fn store(pool: &mut [u64], i: usize, va: u64, kind: Kind, stored: Stored)
     requires { i < pool_rows pool.old }
-    ensures table { pool.new ≡ with_row pool.old i (pool_row va (meant_kind kind) first count) }
+    ensures table { pool.new ≡ with_row pool.old i (pool_row va (meant_kind kind) stored.first stored.count) }
 {
-    let code = kind.code();
+    let code = u64::from(kind);
     let word = pool[POOL_WORDS * i + 1];
     pool[POOL_WORDS * i] = va;
     pool[POOL_WORDS * i + 1] = tree::with_kind(word, code);
-    pool[POOL_WORDS * i + 2] = first;
-    pool[POOL_WORDS * i + 3] = count;
+    pool[POOL_WORDS * i + 2] = stored.first;
+    pool[POOL_WORDS * i + 3] = stored.count;
 }
 
 // Pools what was read at an address, in the place of the earlier row of the address if there is one. The table then holds the
-// pool with the row; of a full table every word is as it was.
-pub fn put(pool: &mut [u64], va: u64, kind: Kind, first: u64, count: u64) -> Stored
-    ensures table { Stores (pool_row va (meant_kind kind) first count) result pool.old pool.new }
+// pool with the row; 1 where the address has none and no row is free, and then every word is as it was.
+pub fn put(pool: &mut [u64], va: u64, kind: Kind, stored: Stored) -> Result<(), Refusal>
+    ensures table { Stores (pool_row va (meant_kind kind) stored.first stored.count) result pool.old pool.new }
 {
     let rows = pool.len() / POOL_WORDS;
     if rows == 0 {
-        return Stored::Full;
+        return Err(Refusal::TableTooShort);
     }
     let h = home(va, rows);
     let r = search(pool, va, h);
     if r < rows {
-        store(pool, r, va, kind, first, count);
-        return Stored::Done;
+        store(pool, r, va, kind, stored);
+        return Ok(());
     }
     if r == rows {
-        return Stored::Full;
+        return Err(Refusal::TableTooShort);
     }
     let free = r - rows - 1;
     tree::link(pool, free, va);
-    store(pool, free, va, kind, first, count);
-    Stored::Done
+    store(pool, free, va, kind, stored);
+    Ok(())
 }
 
 // Pools what was read at an address whose search ended at i, as `put` does.
-pub fn put_at(pool: &mut [u64], i: usize, va: u64, kind: Kind, first: u64, count: u64) -> Stored
-    ensures table { StoresAt i (pool_row va (meant_kind kind) first count) result pool.old pool.new }
+pub fn put_at(pool: &mut [u64], i: usize, va: u64, kind: Kind, stored: Stored) -> Result<(), Refusal>
+    ensures table { StoresAt i (pool_row va (meant_kind kind) stored.first stored.count) result pool.old pool.new }
 {
     if i < pool.len() / POOL_WORDS {
-        store(pool, i, va, kind, first, count);
-        return Stored::Done;
+        store(pool, i, va, kind, stored);
+        return Ok(());
     }
-    put(pool, va, kind, first, count)
+    put(pool, va, kind, stored)
 }

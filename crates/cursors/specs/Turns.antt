@@ -3,10 +3,11 @@ use Rattle.std.specs.Prelude.{ℕ, Bool, List, [], ◌∷◌, leb, length}
 use Rattle.std.proofs.lemmas.List.Edits.{sets}
 use Rattle.std.specs.Borrow.{Bor}
 use Rattle.format.specs.Result.{status}
+use Rattle.format.specs.Refusal.{outcome}
 use Rattle.format.specs.Field.{field_at, which_list}
 use Rattle.format.specs.declared.Words3.{Words3}
 use Rattle.format.specs.declared.Words4.{Words4}
-use Rattle.blocks.specs.Cursor.{words3_at, words4_at, check_of, cursor_at, read_by, taken, skipped, unmarked, va_of}
+use Rattle.blocks.specs.Cursor.{words3_at, words4_at, cursor_at, read_by, taken, skipped, unmarked, va_of}
 use Rattle.blocks.specs.declared.cursor.Cursor.{Cursor}
 use Rattle.cursors.specs.declared.Turns.{Turns}
 
@@ -64,7 +65,7 @@ numbers_of t =
     t.byte ∷ t.half ∷ t.signed ∷ t.word ∷ t.long ∷ t.float ∷
     t.three.x ∷ t.three.y ∷ t.three.z ∷
     t.four.x ∷ t.four.y ∷ t.four.z ∷ t.four.w ∷
-    t.va ∷ status (check_of t.checked) ∷ []
+    t.va ∷ status (outcome t.checked) ∷ []
 
 -- whether the numbers fit in a lent slice
 abbrev pub fit : List ℕ → Bool

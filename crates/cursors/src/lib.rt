@@ -3,11 +3,11 @@
 
 ghost use Rattle.std.specs.Prelude.{◌≡◌};
 ghost use Rattle.format.specs.Result.{status};
-ghost use Rattle.blocks.specs.Cursor.{check_of};
+ghost use Rattle.format.specs.Refusal.{outcome};
 ghost use Rattle.cursors.specs.Turns.{in_turn, numbers_of, fit, told};
 
-use blocks::cursor::{Cursor, CursorCheck};
-use format::{Words3, Words4};
+use blocks::cursor::Cursor;
+use format::{Refusal, Words3, Words4};
 
 // What each read gives, and where it leaves the cursor.
 #[derive(Clone, Copy)]
@@ -21,7 +21,7 @@ pub struct Turns {
     pub three: Words3,
     pub four: Words4,
     pub va: u64,
-    pub checked: CursorCheck,
+    pub checked: Result<(), Refusal>,
 }
 
 // A cursor over the section s at a position: each read in turn, then a skip of n bytes, so that a skip that marked would be seen.
@@ -56,12 +56,12 @@ pub fn in_turn(s: &[u8], pos: usize, base: u64, n: usize) -> Turns
 pub const NUMBERS: usize = 15;
 
 // The status that C and Rust are told: 0, or the refusal's number.
-fn status(c: CursorCheck) -> u64
-    ensures { result ≡ status (check_of c) }
+fn status(checked: Result<(), Refusal>) -> u64
+    ensures { result ≡ status (outcome checked) }
 {
-    match c {
-        CursorCheck::Within => 0,
-        CursorCheck::Refused(x) => u32::from(x) as u64,
+    match checked {
+        Ok(()) => 0,
+        Err(refusal) => u64::from(u32::from(refusal)),
     }
 }
 
@@ -75,21 +75,22 @@ pub fn numbers(s: &[u8], pos: usize, base: u64, n: usize, out: &mut [u64]) -> bo
         return false;
     }
     let t = in_turn(s, pos, base, n);
-    out[0] = t.byte as u64;
-    out[1] = t.half as u64;
-    out[2] = t.signed as u64;
-    out[3] = t.word as u64;
-    out[4] = t.long;
-    out[5] = t.float as u64;
-    out[6] = t.three.x as u64;
-    out[7] = t.three.y as u64;
-    out[8] = t.three.z as u64;
-    out[9] = t.four.x as u64;
-    out[10] = t.four.y as u64;
-    out[11] = t.four.z as u64;
-    out[12] = t.four.w as u64;
-    out[13] = t.va;
-    let checked = t.checked;
-    out[14] = status(checked);
+    out[..NUMBERS].copy_from_slice(&[
+        u64::from(t.byte),
+        u64::from(t.half),
+        u64::from(t.signed),
+        u64::from(t.word),
+        t.long,
+        u64::from(t.float),
+        u64::from(t.three.x),
+        u64::from(t.three.y),
+        u64::from(t.three.z),
+        u64::from(t.four.x),
+        u64::from(t.four.y),
+        u64::from(t.four.z),
+        u64::from(t.four.w),
+        t.va,
+        status(t.checked),
+    ]);
     true
 }

@@ -7,6 +7,7 @@ use Rattle.std.specs.Prelude.{Option, None, Some}
 use mathlib.Core.List.{List, flat_map}
 use lib.ListN.{length}
 use Rattle.format.specs.Result.{Res, refused, done, ◌>>=◌}
+use Rattle.format.specs.Refusal.{outcome_by}
 use Rattle.format.specs.declared.Refusal.{Refusal}
 use Rattle.format.specs.declared.Refusal.TheVariants.{TableTooShort}
 use Rattle.format.specs.Section.{Section, Place}
@@ -20,20 +21,16 @@ use Rattle.format.specs.Tables.{with_pool, with_bones, add_skeleton, put}
 use Rattle.format.specs.Read.{Step, read_bucket_array, read_bones_at, read_list, keep_columns, skeleton_row, read_new_skeleton}
 use Rattle.tables.proofs.Laid.{laid_none}
 use Rattle.blocks.specs.Pool.{Stores}
-use Rattle.blocks.specs.declared.pool.Stored.{Stored}
-use Rattle.blocks.specs.declared.pool.Stored.TheVariants.{Done, Full}
 use Rattle.blocks.proofs.Storing.{after, tables-done, tables-full}
 use Rattle.read_chains.specs.Lent.{HoldsChains}
 use Rattle.read_chains.proofs.Lent.{holds-none}
-use Rattle.read_records.specs.Header.{meant_header, meant_headed}
+use Rattle.read_records.specs.Header.{meant_header}
 use Rattle.read.specs.Parts.{meant_part, listing, read_rows, rows_only, RowsLent, RowsBy, ReadsRows}
 use Rattle.read.specs.Parts.{read_pair, PairLent, PairBy, ReadsPair, KeepsPart}
 use Rattle.read.specs.Lent.{Lent, lent, read_room, cleared_all}
 use Rattle.read.specs.Reads.{meant_skeleton, Fills}
 use Rattle.read.specs.declared.Skeleton.{Skeleton}
 use Rattle.read_records.specs.declared.header.Header.{Header}
-use Rattle.read_records.specs.declared.header.Headed.{Headed}
-use Rattle.read_records.specs.declared.header.Headed.TheVariants as H
 
 -- ---- the format's reading, two parts at a time
 
@@ -155,13 +152,13 @@ module _ (o₀ b₀ e₀ i₀ l₀ a₀ c₀ p₀ : List ℕ) where
   abbrev Zero : Type 0
   Zero = given ≡ cleared_all given
 
-  module _ (sec : Section) (root : ℕ) (v : Headed) (hd : meant_headed v ≡ header sec root) where
-    pub fill_no_header : {x : Refusal} → v ≡ H.Refused x → Fills sec root (Err x) given given
+  module _ (sec : Section) (root : ℕ) (v : Result Header Refusal) (hd : outcome_by meant_header v ≡ header sec root) where
+    pub fill_no_header : {x : Refusal} → v ≡ Err x → Fills sec root (Err x) given given
     unfolding read_new_skeleton
-    fill_no_header i = record { fills = λ z. rw (sym hd ∙ ap meant_headed i) refl }
+    fill_no_header i = record { fills = λ z. rw (sym hd ∙ ap (outcome_by meant_header) i) refl }
 
     module _
-        {h : Header} (ih : v ≡ H.At h) {r₁ : Result (Option ℕ × Option ℕ) Refusal} {o₁ b e p₁ : List ℕ} (m₁ : ReadsRows sec h r₁ o₀ o₁ b₀ b e₀ e p₀ p₁)
+        {h : Header} (ih : v ≡ Ok h) {r₁ : Result (Option ℕ × Option ℕ) Refusal} {o₁ b e p₁ : List ℕ} (m₁ : ReadsRows sec h r₁ o₀ o₁ b₀ b e₀ e p₀ p₁)
       where
         rows-read : {y : Result (Option ℕ × Option ℕ) Refusal} → r₁ ≡ y → Zero → RowsBy room (read_rows sec room (meant_header h) no_rows) o₁ b e p₁ y
         rows-read i z =
@@ -172,7 +169,7 @@ module _ (o₀ b₀ e₀ i₀ l₀ a₀ c₀ p₀ : List ℕ) where
             {g : Step (Option Rows × Option Rows)} → read_rows sec room (meant_header h) no_rows ≡ g →
             read_new_skeleton sec room root no_rows ≡ (g >>= matrices sec room root (meant_header h))
         from_rows e =
-            to_rows sec room root (meant_header h) (sym hd ∙ ap meant_headed ih) no_rows
+            to_rows sec room root (meant_header h) (sym hd ∙ ap (outcome_by meant_header) ih) no_rows
             ∙ ap (λ (g : Step (Option Rows × Option Rows)). g >>= matrices sec room root (meant_header h)) e
 
         pub fill-no_rows : {x : Refusal} → r₁ ≡ Err x → Fills sec root (Err x) given (lent o₁ b e i₀ l₀ a₀ c₀ p₁)
@@ -272,7 +269,7 @@ module _ (o₀ b₀ e₀ i₀ l₀ a₀ c₀ p₀ : List ℕ) where
                 fill_no_indices j = record { fills = λ z. from_indices z (indices-read j z) }
 
                 module _
-                    {x₃ y₃ : Option ℕ} (d₃ : r₃ ≡ Ok (x₃, y₃)) {o p : List ℕ} (k : KeepsPart y₁ y₂ l o₁ o) {s : Stored}
+                    {x₃ y₃ : Option ℕ} (d₃ : r₃ ≡ Ok (x₃, y₃)) {o p : List ℕ} (k : KeepsPart y₁ y₂ l o₁ o) {s : Result (Unit {0}) Refusal}
                     (w : Stores (pooled root skeleton (rows 0 1)) s p₃ p)
                   where
                     -- the tables with every part
@@ -300,7 +297,7 @@ module _ (o₀ b₀ e₀ i₀ l₀ a₀ c₀ p₀ : List ℕ) where
                         (columns_bones (meant_part y₁) (meant_part y₂) (t₃ z))
                         ∙ ap finish e
 
-                    pub fill-full : s ≡ Full → Fills sec root (Err TableTooShort) given (lent o b e i l a c p)
+                    pub fill-full : {y : Refusal} → s ≡ Err y → Fills sec root (Err y) given (lent o b e i l a c p)
                     fill-full f =
                         record {
                           fills =
@@ -311,7 +308,7 @@ module _ (o₀ b₀ e₀ i₀ l₀ a₀ c₀ p₀ : List ℕ) where
                         }
 
                     pub fill_done :
-                        s ≡ Done → length o ≡ length o₀ → length b ≡ length b₀ → length e ≡ length e₀ → length l ≡ length l₀ →
+                        {v : Unit {0}} → s ≡ Ok v → length o ≡ length o₀ → length b ≡ length b₀ → length e ≡ length e₀ → length l ≡ length l₀ →
                         Fills sec root (Ok (skeleton_of h x₁ y₁ x₂ y₂ x₃ y₃)) given (lent o b e i l a c p)
                     unfolding table_words
                     fill_done f so sb se sl =

@@ -9,11 +9,11 @@ ghost use Rattle.read.specs.Lent.{lent, cleared_all, read_room};
 ghost use Rattle.read.specs.Reads.{Fills, Reads};
 
 use blocks::kinds::Kind;
+use blocks::places::Section;
 use blocks::pool;
 use blocks::pool::Stored;
 use format::{Refusal, Words4};
 use read_records::header;
-use read_records::header::Headed;
 
 mod parts; // the parts, one after another
 
@@ -82,10 +82,11 @@ fn fill<'a>(
         (lent bones.new buckets.new entries.new inverse.new
         local.new parents.new children.new pool.new) }
 {
-    let h = match header::header_at(sys, gfx, root) {
-        Headed::At(h) => h,
-        Headed::Refused(r) => return Err(r),
+    let section = Section {
+        system: sys,
+        graphics: gfx,
     };
+    let h = header::header_at(section, root)?;
     let (buckets_read, bones_read) = parts::read_rows(sys, gfx, h, bones, buckets, entries, pool)?;
     let (inverse_read, local_read) = parts::read_matrices(
         sys,
@@ -109,9 +110,7 @@ fn fill<'a>(
         pool,
     )?;
     parts::keep(bones, bones_read, local, local_read);
-    if let Stored::Full = pool::put(pool, root, Kind::Skeleton, 0, 1) {
-        return Err(Refusal::TableTooShort);
-    }
+    pool::put(pool, root, Kind::Skeleton, Stored { first: 0, count: 1 })?;
     Ok(Skeleton {
         kind: h.kind,
         free: h.free,

@@ -1,6 +1,6 @@
 -- The ways out of `header_at`, `new_block` and `read_block`. Assumes nothing.
 use Rattle.std.proofs.Common.{◌≡◌, ℕ, zero, suc, ◌+◌, ◌-◌, ◌<◌, ◌≤◌, leb, List, [], ◌++◌, length, sym, refl, ap, ◌∙◌, subst, zero-add, arith, le-leb}
-use Rattle.std.specs.Prelude.{Option, Some}
+use Rattle.std.specs.Prelude.{Option, Some, None, Result, Ok, Err}
 use borrow.Author.Tests.{lt-leb}
 use Rattle.format.specs.Result.{Res, done, ◌>>=◌, need}
 use Rattle.format.specs.declared.Refusal.{Refusal}
@@ -13,10 +13,7 @@ use Rattle.blocks.specs.Places.{spot_of, spot_in, Locates}
 use Rattle.blocks.specs.Pool.{pool_row, meant_cached, FindsAs, Stores}
 use Rattle.blocks.specs.declared.places.Located.{Located}
 use Rattle.blocks.specs.declared.places.Located.TheVariants.{Refused as not-located}
-use Rattle.blocks.specs.declared.pool.Cached.{Cached}
-use Rattle.blocks.specs.declared.pool.Cached.TheVariants.{Nothing, At as cached-at, Refused as cached-refused}
 use Rattle.blocks.specs.declared.pool.Stored.{Stored}
-use Rattle.blocks.specs.declared.pool.Stored.TheVariants.{Done, Full}
 use Rattle.blocks.proofs.Standing.{locates_cursor}
 use Rattle.blocks.proofs.Storing.{after, put-done, tables-done, tables-full}
 use Rattle.read_bones.specs.Lent.{leaving, InOrder}
@@ -102,7 +99,7 @@ module _
           }
 
       module _
-          {u : ℕ} (i : r ≡ bones-done u) {x : Stored} {p : List ℕ} (w : Stores (pool_row (pointer - 16) block used n) x p₁ p)
+          {u : ℕ} (i : r ≡ bones-done u) {x : Result (Unit {0}) Refusal} {p : List ℕ} (w : Stores (pool_row (pointer - 16) block used n) x p₁ p)
         where
           -- the bones read, and the store as the format makes it
           grown :
@@ -117,7 +114,7 @@ module _
               let k : used ≡ length t.members = e ∙ sym (ap length o ∙ length-up_from 0 (length t.bones)) in
               subst (λ (f : ℕ). Stores (pool_row (pointer - 16) block f n) x p₁ p) k w
 
-          pub block-full : x ≡ Full → NewBlock sec pointer n used (Refused TableTooShort) b₀ b p₀ p
+          pub block-full : {y : Refusal} → x ≡ Err y → NewBlock sec pointer n used (Refused y) b₀ b p₀ p
           unfolding block_from
           block-full f =
               record {
@@ -140,7 +137,7 @@ module _
                     };
               }
 
-          pub block-done : x ≡ Done → NewBlock sec pointer n used (At used n u) b₀ b p₀ p
+          pub block-done : {v : Unit {0}} → x ≡ Ok v → NewBlock sec pointer n used (At used n u) b₀ b p₀ p
           unfolding block_from
           block-done f =
               record {
@@ -238,9 +235,9 @@ module _ (sec : Section) (pointer n used : ℕ) (b₀ p₀ : List ℕ) where
     block_asks room t zero h = absurd (h refl)
     block_asks room t (suc a) h = refl
 
-    module _ (h : pointer ≡ 16 → ⊥) {o : Cached} (m : FindsAs p₀ block (pointer - 16) o) where
+    module _ (h : pointer ≡ 16 → ⊥) {o : Result (Option Stored) Refusal} (m : FindsAs p₀ block (pointer - 16) o) where
       asked :
-          (room : Room) (t : Tables) → Before room t pointer used b₀ p₀ → {o' : Cached} → o ≡ o' →
+          (room : Room) (t : Tables) → Before room t pointer used b₀ p₀ → {o' : Result (Option Stored) Refusal} → o ≡ o' →
           read_bones_at sec room pointer n t ≡ (meant_cached o' >>= λ r. block_from sec room (pointer - 16) n t r)
       asked room t before e =
           at_block room t ∙ block_asks room t (pointer - 16) (λ z. h (omega arith))
@@ -248,7 +245,7 @@ module _ (sec : Section) (pointer n used : ℕ) (b₀ p₀ : List ℕ) where
           (sym (m.found before.lent.held) ∙ ap meant_cached e)
 
       pub block-unread :
-          {r : Block} {b p : List ℕ} → o ≡ Nothing → NewBlock sec pointer n used r b₀ b p₀ p →
+          {r : Block} {b p : List ℕ} → o ≡ Ok None → NewBlock sec pointer n used r b₀ b p₀ p →
           ReadsBlock sec pointer n used r b₀ b p₀ p
       block-unread e f =
           record {
@@ -258,7 +255,7 @@ module _ (sec : Section) (pointer n used : ℕ) (b₀ p₀ : List ℕ) where
                 record { bones = d.bones; pool = d.pool; answer = asked room t before e ∙ d.answer; table = d.table };
           }
 
-      pub block_again : {f c : ℕ} → o ≡ cached-at f c → ReadsBlock sec pointer n used (At f c used) b₀ b₀ p₀ p₀
+      pub block_again : {f c : ℕ} → o ≡ Ok (Some (record { first = f; count = c })) → ReadsBlock sec pointer n used (At f c used) b₀ b₀ p₀ p₀
       unfolding block_from
       block_again {f} {c} e =
           record {
@@ -281,7 +278,7 @@ module _ (sec : Section) (pointer n used : ℕ) (b₀ p₀ : List ℕ) where
                 };
           }
 
-      pub block-other : {x : Refusal} → o ≡ cached-refused x → ReadsBlock sec pointer n used (Refused x) b₀ b₀ p₀ p₀
+      pub block-other : {x : Refusal} → o ≡ Err x → ReadsBlock sec pointer n used (Refused x) b₀ b₀ p₀ p₀
       block-other e =
           record {
             reads = λ room t before i. record { bones = t.bones; pool = t.pool; answer = asked room t before e; table = tt };

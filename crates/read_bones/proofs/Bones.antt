@@ -1,6 +1,6 @@
 -- The ways out of `bone_from`, `new_bone` and `read_bone` (docs/FORMAT.md, "Records"). Assumes nothing.
 use Rattle.std.proofs.Common.{◌≡◌, ℕ, suc, ◌+◌, ◌-◌, ◌/◌, ◌%◌, ◌<◌, ◌≤◌, Bool, true, false, eqb, List, [], ◌∷◌, ◌++◌, length, take, drop, sym, refl, ap, ◌∙◌, subst, arith, length-append, length-drop, length-take, le-ltb, lt-ltb, eqb-true}
-use Rattle.std.specs.Prelude.{Some}
+use Rattle.std.specs.Prelude.{Some, Option, None, Result, Ok, Err}
 use Rattle.format.specs.Result.{refused, done, need}
 use Rattle.format.specs.Refusal.{number}
 use Rattle.format.specs.declared.Refusal.{Refusal}
@@ -20,10 +20,7 @@ use Rattle.blocks.specs.Places.{standing}
 use Rattle.blocks.specs.Pool.{pool_row, meant_cached, FindsAs, Stores}
 use Rattle.blocks.specs.declared.names.Named.{Named}
 use Rattle.blocks.specs.declared.names.Named.TheVariants.{At as named-at, Refused as name-refused}
-use Rattle.blocks.specs.declared.pool.Cached.{Cached}
-use Rattle.blocks.specs.declared.pool.Cached.TheVariants.{Nothing, At as cached-at, Refused as cached-refused}
 use Rattle.blocks.specs.declared.pool.Stored.{Stored}
-use Rattle.blocks.specs.declared.pool.Stored.TheVariants.{Done, Full}
 use Rattle.blocks.proofs.Standing.{bytes_at, part-standing, standing-done}
 use Rattle.blocks.proofs.Storing.{after, put-fits, put-done, tables-done, tables-full}
 use Rattle.rows.specs.Row.{has_row, put_row}
@@ -139,13 +136,13 @@ module _
                   };
             }
 
-        module _ (g : is_err x ≡ false) {s : Stored} {p : List ℕ} (w : Stores (pool_row va bone used 1) s p₁ p) where
+        module _ (g : is_err x ≡ false) {s : Result (Unit {0}) Refusal} {p : List ℕ} (w : Stores (pool_row va bone used 1) s p₁ p) where
           room-left : (room : Room) (t : Tables) (at : ℕ) → Before room t at used b₀ p₀ → length t.bones < room.bones
           room-left room t at h =
               let l = has_row_lt b₀ used (stored_is (has_row b₀ used) x ex g) in
               omega (arith, h.count, h.lent.rows.size)
 
-          pub bone-full : (b : List ℕ) → s ≡ Full → BoneFrom sec bytes va used (Refused TableTooShort) b₀ b p₀ p
+          pub bone-full : (b : List ℕ) → {y : Refusal} → s ≡ Err y → BoneFrom sec bytes va used (Refused y) b₀ b p₀ p
           unfolding bone_from
           bone-full b i =
               record {
@@ -170,7 +167,7 @@ module _
               }
 
           module _ (y : Bone) (ey : meant_bone y ≡ bone_fields bytes pl) {b : List ℕ} (eb : b ≡ put_row b₀ used (meant_bone y)) where
-            pub bone-done : s ≡ Done → BoneFrom sec bytes va used (At used (used + 1)) b₀ b p₀ p
+            pub bone-done : {v : Unit {0}} → s ≡ Ok v → BoneFrom sec bytes va used (At used (used + 1)) b₀ b p₀ p
             unfolding bone_from
             bone-done i =
                 record {
@@ -235,9 +232,9 @@ new_bone_outside used b p e =
 
 -- ---- `read_bone`
 
-module _ {sec : Section} {va used : ℕ} (b₀ : List ℕ) {p₀ : List ℕ} {o : Cached} (m : FindsAs p₀ bone va o) where
+module _ {sec : Section} {va used : ℕ} (b₀ : List ℕ) {p₀ : List ℕ} {o : Result (Option Stored) Refusal} (m : FindsAs p₀ bone va o) where
   pub bone-unread :
-      {r : Row} {b p : List ℕ} → o ≡ Nothing → NewBone sec va used r b₀ b p₀ p → ReadsBone sec va used r b₀ b p₀ p
+      {r : Row} {b p : List ℕ} → o ≡ Ok None → NewBone sec va used r b₀ b p₀ p → ReadsBone sec va used r b₀ b p₀ p
   unfolding read_bone
   bone-unread e n =
       record {
@@ -252,7 +249,7 @@ module _ {sec : Section} {va used : ℕ} (b₀ : List ℕ) {p₀ : List ℕ} {o 
             };
       }
 
-  pub bone_again : {f c : ℕ} → o ≡ cached-at f c → ReadsBone sec va used (At f used) b₀ b₀ p₀ p₀
+  pub bone_again : {f c : ℕ} → o ≡ Ok (Some (record { first = f; count = c })) → ReadsBone sec va used (At f used) b₀ b₀ p₀ p₀
   unfolding read_bone bone_from
   bone_again {f} {c} e =
       record {
@@ -275,7 +272,7 @@ module _ {sec : Section} {va used : ℕ} (b₀ : List ℕ) {p₀ : List ℕ} {o 
             };
       }
 
-  pub bone-other : {x : Refusal} → o ≡ cached-refused x → ReadsBone sec va used (Refused x) b₀ b₀ p₀ p₀
+  pub bone-other : {x : Refusal} → o ≡ Err x → ReadsBone sec va used (Refused x) b₀ b₀ p₀ p₀
   unfolding read_bone
   bone-other e =
       record {

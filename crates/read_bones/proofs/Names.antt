@@ -1,6 +1,6 @@
 -- The ways out of `new_name` and `read_name` (docs/FORMAT.md, "Finding bytes"). Assumes nothing.
 use Rattle.std.proofs.Common.{◌≡◌, ℕ, zero, suc, ◌<◌, List, length, drop, sym, refl, ap, ◌∙◌, arith}
-use Rattle.std.specs.Prelude.{Some}
+use Rattle.std.specs.Prelude.{Some, Option, None, Result, Ok, Err}
 use Rattle.format.specs.Result.{done, ◌>>=◌}
 use Rattle.format.specs.declared.Refusal.{Refusal}
 use Rattle.format.specs.declared.Refusal.TheVariants.{TableTooShort}
@@ -15,10 +15,7 @@ use Rattle.blocks.specs.Names.{meant_place, meant_name}
 use Rattle.blocks.specs.Pool.{pool_row, meant_cached, FindsAs, Stores}
 use Rattle.blocks.specs.declared.names.Named.{Named}
 use Rattle.blocks.specs.declared.names.Named.TheVariants.{At, Refused}
-use Rattle.blocks.specs.declared.pool.Cached.{Cached}
-use Rattle.blocks.specs.declared.pool.Cached.TheVariants.{Nothing, At as cached-at, Refused as cached-refused}
 use Rattle.blocks.specs.declared.pool.Stored.{Stored}
-use Rattle.blocks.specs.declared.pool.Stored.TheVariants.{Done, Full}
 use Rattle.blocks.proofs.Storing.{after, put-fits, put-done, tables-done, tables-full}
 use Rattle.read_bones.specs.Bones.{NewName, ReadsName}
 use Rattle.read_bones.proofs.Pools.{found_again, unread-enter}
@@ -51,12 +48,12 @@ module _ (sec : Section) (va : ℕ) {n : Named} (m : meant_name n ≡ name_at se
       }
 
   module _
-      {pl : Place} (e : n ≡ At pl) {s : Stored} {p : List ℕ} (w : Stores (pool_row va string pl.address pl.size) s p₀ p)
+      {pl : Place} (e : n ≡ At pl) {s : Result (Unit {0}) Refusal} {p : List ℕ} (w : Stores (pool_row va string pl.address pl.size) s p₀ p)
     where
       found : name_at sec va ≡ done (meant_place pl)
       found = sym m ∙ ap meant_name e
 
-      pub new_name-full : s ≡ Full → NewName sec va (Refused TableTooShort) p₀ p
+      pub new_name-full : {y : Refusal} → s ≡ Err y → NewName sec va (Refused y) p₀ p
       unfolding name_from
       new_name-full f =
           record {
@@ -69,7 +66,7 @@ module _ (sec : Section) (va : ℕ) {n : Named} (m : meant_name n ≡ name_at se
                 };
           }
 
-      pub new_name-done : s ≡ Done → NewName sec va (At pl) p₀ p
+      pub new_name-done : {v : Unit {0}} → s ≡ Ok v → NewName sec va (At pl) p₀ p
       unfolding name_from
       new_name-done f =
           record {
@@ -109,8 +106,8 @@ unfolding read_name
 read_name_asks sec room zero t h = absurd (h refl)
 read_name_asks sec room (suc a) t h = refl
 
-module _ {sec : Section} {va : ℕ} (pos : va ≡ 0 → ⊥) {p₀ : List ℕ} {o : Cached} (m : FindsAs p₀ string va o) where
-  pub name-unread : {r : Named} {p : List ℕ} → o ≡ Nothing → NewName sec va r p₀ p → ReadsName sec va r p₀ p
+module _ {sec : Section} {va : ℕ} (pos : va ≡ 0 → ⊥) {p₀ : List ℕ} {o : Result (Option Stored) Refusal} (m : FindsAs p₀ string va o) where
+  pub name-unread : {r : Named} {p : List ℕ} → o ≡ Ok None → NewName sec va r p₀ p → ReadsName sec va r p₀ p
   name-unread e n =
       record {
         reads =
@@ -124,7 +121,7 @@ module _ {sec : Section} {va : ℕ} (pos : va ≡ 0 → ⊥) {p₀ : List ℕ} {
       }
 
   pub name_again :
-      {f c : ℕ} → o ≡ cached-at f c → ReadsName sec va (At (record { address = f; size = c })) p₀ p₀
+      {f c : ℕ} → o ≡ Ok (Some (record { first = f; count = c })) → ReadsName sec va (At (record { address = f; size = c })) p₀ p₀
   unfolding name_from
   name_again {f} {c} e =
       record {
@@ -140,7 +137,7 @@ module _ {sec : Section} {va : ℕ} (pos : va ≡ 0 → ⊥) {p₀ : List ℕ} {
             };
       }
 
-  pub name-other : {x : Refusal} → o ≡ cached-refused x → ReadsName sec va (Refused x) p₀ p₀
+  pub name-other : {x : Refusal} → o ≡ Err x → ReadsName sec va (Refused x) p₀ p₀
   name-other e =
       record {
         reads =

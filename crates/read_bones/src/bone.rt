@@ -10,7 +10,7 @@ ghost use Rattle.read_bones.specs.Bones.{words_at3, words_at4, bone_fields, Read
 use blocks::kinds::Kind;
 use blocks::names::Named;
 use blocks::places::Located;
-use blocks::pool::Cached;
+use blocks::pool::Stored;
 use blocks::{names, places, pool};
 use format::{Place, Refusal, Words3, Words4};
 use rows::Bone;
@@ -33,10 +33,16 @@ fn new_name(sys: &[u8], gfx: &[u8], va: u64, i: usize, pool: &mut [u64]) -> Name
 {
     let n = names::name_at(sys, gfx, va);
     match n {
-        Named::At(p) => match pool::put_at(pool, i, va, Kind::String, p.address, p.size) {
-            pool::Stored::Done => Named::At(p),
-            pool::Stored::Full => Named::Refused(Refusal::TableTooShort),
-        },
+        Named::At(p) => {
+            let stored = Stored {
+                first: p.address,
+                count: p.size,
+            };
+            match pool::put_at(pool, i, va, Kind::String, stored) {
+                Ok(()) => Named::At(p),
+                Err(r) => Named::Refused(r),
+            }
+        }
         Named::Refused(r) => Named::Refused(r),
     }
 }
@@ -53,12 +59,12 @@ fn read_name(sys: &[u8], gfx: &[u8], va: u64, pool: &mut [u64]) -> Named
     }
     let i = pool::place(pool, va);
     match pool::cached_at(pool, Kind::String, i) {
-        Cached::Nothing => new_name(sys, gfx, va, i, pool),
-        Cached::At(address, size) => Named::At(Place {
-            address: address,
-            size: size,
+        Ok(None) => new_name(sys, gfx, va, i, pool),
+        Ok(Some(stored)) => Named::At(Place {
+            address: stored.first,
+            size: stored.count,
         }),
-        Cached::Refused(r) => Named::Refused(r),
+        Err(r) => Named::Refused(r),
     }
 }
 
@@ -133,9 +139,13 @@ fn bone_from(
                 return Row::Refused(Refusal::TableTooShort);
             }
             let i = pool::place(pool, va);
-            match pool::put_at(pool, i, va, Kind::Bone, used as u64, 1) {
-                pool::Stored::Done => Row::At(used as u64, used + 1),
-                pool::Stored::Full => Row::Refused(Refusal::TableTooShort),
+            let stored = Stored {
+                first: used as u64,
+                count: 1,
+            };
+            match pool::put_at(pool, i, va, Kind::Bone, stored) {
+                Ok(()) => Row::At(used as u64, used + 1),
+                Err(r) => Row::Refused(r),
             }
         }
         Named::Refused(r) => Row::Refused(r),
@@ -181,8 +191,8 @@ pub fn read_bone(
         bones.old bones.new pool.old pool.new }
 {
     match pool::cached_as(pool, Kind::Bone, va) {
-        Cached::Nothing => new_bone(sys, gfx, va, bones, used, pool),
-        Cached::At(row, _) => Row::At(row, used),
-        Cached::Refused(r) => Row::Refused(r),
+        Ok(None) => new_bone(sys, gfx, va, bones, used, pool),
+        Ok(Some(stored)) => Row::At(stored.first, used),
+        Err(r) => Row::Refused(r),
     }
 }

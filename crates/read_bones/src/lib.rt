@@ -9,7 +9,7 @@ ghost use Rattle.read_bones.specs.Blocks.{ReadsBones, LegalAt, NewBlock, ReadsBl
 use crate::bone::Row;
 use blocks::kinds::Kind;
 use blocks::places::Located;
-use blocks::pool::{Cached, Stored};
+use blocks::pool::Stored;
 use blocks::{places, pool};
 use format::Refusal;
 
@@ -113,10 +113,16 @@ fn new_block(
     }
     let s = read_bones(sys, gfx, pointer, n, bones, used, pool);
     match s {
-        Stretch::Done(u) => match pool::put(pool, va, Kind::Block, used as u64, n as u64) {
-            Stored::Done => Block::At(used as u64, n as u64, u),
-            Stored::Full => Block::Refused(Refusal::TableTooShort),
-        },
+        Stretch::Done(u) => {
+            let stored = Stored {
+                first: used as u64,
+                count: n as u64,
+            };
+            match pool::put(pool, va, Kind::Block, stored) {
+                Ok(()) => Block::At(used as u64, n as u64, u),
+                Err(r) => Block::Refused(r),
+            }
+        }
         Stretch::Refused(r) => Block::Refused(r),
     }
 }
@@ -147,8 +153,8 @@ pub fn read_block(
         return Block::Absent;
     }
     match pool::cached_as(pool, Kind::Block, pointer - HEADER_SIZE) {
-        Cached::Nothing => new_block(sys, gfx, pointer, n, bones, used, pool),
-        Cached::At(first, count) => Block::At(first, count, used),
-        Cached::Refused(r) => Block::Refused(r),
+        Ok(None) => new_block(sys, gfx, pointer, n, bones, used, pool),
+        Ok(Some(stored)) => Block::At(stored.first, stored.count, used),
+        Err(r) => Block::Refused(r),
     }
 }

@@ -2,12 +2,12 @@
 use Prim.Native.Nat.{ℕ, suc, ◌+◌, ◌*◌, ◌%◌, ◌<◌}
 use native.Mathlib.Omega.{arith}
 use mathlib.Core.Path.{◌≡◌, refl, sym, ap, subst, ◌∙◌}
-use Rattle.std.specs.Prelude.{Option, None, Some}
+use Rattle.std.specs.Prelude.{Option, None, Some, Result, Ok, Err}
 use mathlib.Core.List.{List, [], ◌∷◌}
 use lib.ListN.{length}
 use lib.Seq.{sets}
 use Rattle.format.specs.Result.{Res, refused, done, ◌>>=◌}
-use Rattle.format.specs.Refusal.{number}
+use Rattle.format.specs.Refusal.{number, outcome}
 use Rattle.format.specs.declared.Refusal.{Refusal}
 use Rattle.format.specs.declared.Refusal.TheVariants.{TableTooShort}
 use Rattle.format.specs.Section.{Section}
@@ -20,28 +20,26 @@ use Rattle.blocks.specs.declared.pool.Stored.{Stored}
 use Rattle.blocks.specs.declared.pool.Stored.TheVariants.{Done, Full}
 use Rattle.blocks.proofs.Storing.{after, put-done, tables-done, tables-full}
 use Rattle.read_chains.specs.Lent.{entry_room, HoldsEntries}
-use Rattle.read_records.specs.Entry.{entry_at, meant_fields}
+use Rattle.read_records.specs.Entry.{entry_at}
 use Rattle.read_chains.specs.Entries.{meant_link, UnreadAt, LinksTo, ReadsEntry}
 use Rattle.read_records.specs.declared.entry.Entry.{Entry}
-use Rattle.read_records.specs.declared.entry.Fields.{Fields}
-use Rattle.read_records.specs.declared.entry.Fields.TheVariants as F
 use Rattle.read_chains.specs.declared.chains.Link.{Link}
 use Rattle.read_chains.specs.declared.chains.Link.TheVariants as L
 use Rattle.read_chains.specs.declared.chains.Step.TheVariants as S
 use Rattle.read_chains.proofs.Lent.{room_most, link_row, linked-more, holds-entry}
 use Rattle.read_records.proofs.Entries.{Held, entry-held, entry_lost}
 
-holding : {sec : Section} {va : ℕ} {y : Fields} {f : Entry} → meant_fields y ≡ entry_at sec va → y ≡ F.At f → Held sec va f
-holding {sec} {va} {y} {f} fs a = entry-held sec va f (sym (ap meant_fields a) ∙ fs)
+holding : {sec : Section} {va : ℕ} {y : Result Entry Refusal} {f : Entry} → outcome y ≡ entry_at sec va → y ≡ Ok f → Held sec va f
+holding {sec} {va} {y} {f} fs a = entry-held sec va f (sym (ap outcome a) ∙ fs)
 
-module _ (sec : Section) (va row : ℕ) {e₀ p₀ : List ℕ} {y : Fields} (fs : meant_fields y ≡ entry_at sec va) where
+module _ (sec : Section) (va row : ℕ) {e₀ p₀ : List ℕ} {y : Result Entry Refusal} (fs : outcome y ≡ entry_at sec va) where
   -- its bytes do not stand
-  pub step_lost : {x : Refusal} → y ≡ F.Refused x → ReadsEntry sec va row (S.Refused x) e₀ e₀ p₀ p₀
+  pub step_lost : {x : Refusal} → y ≡ Err x → ReadsEntry sec va row (S.Refused x) e₀ e₀ p₀ p₀
   unfolding read_chain
   step_lost {x} a =
-      record { next = tt; reads = λ h left. rw (entry_lost sec va (number x) (sym (ap meant_fields a) ∙ fs)) refl }
+      record { next = tt; reads = λ h left. rw (entry_lost sec va (number x) (sym (ap outcome a) ∙ fs)) refl }
 
-  module _ {f : Entry} (a : y ≡ F.At f) {s : Stored} {p : List ℕ} (w : Stores (pooled va entry (rows row 1)) s p₀ p) where
+  module _ {f : Entry} (a : y ≡ Ok f) {s : Stored} {p : List ℕ} (w : Stores (pooled va entry (rows row 1)) s p₀ p) where
     -- the pool is full
     pub step_full : s ≡ Full → ReadsEntry sec va row (S.Refused TableTooShort) e₀ e₀ p₀ p
     unfolding read_chain

@@ -11,12 +11,11 @@ ghost use Rattle.read_chains.specs.Entries.{no_row, LinksTo};
 ghost use Rattle.read_chains.specs.Entries.{ReadsEntry, ReadsChain, ReadsHead};
 
 use blocks::kinds::Kind;
-use blocks::places::Located;
+use blocks::places::{Located, Section};
 use blocks::pool::{Cached, Stored};
 use blocks::{places, pool};
 use format::{ENTRY_WORDS, Refusal};
 use read_records::entry;
-use read_records::entry::Fields;
 
 // The most rows of an entries table that are used: the link to the row behind the last is a 32-bit word, too. No section has
 // more than 536,870,912 addresses.
@@ -128,10 +127,13 @@ fn read_entry(
     ensures { ReadsEntry (section sys.now gfx.now) va row result
         entries.old entries.new pool.old pool.new }
 {
-    let f = entry::entry_at(sys, gfx, va);
-    match f {
-        Fields::Refused(r) => Step::Refused(r),
-        Fields::At(e) => {
+    let section = Section {
+        system: sys,
+        graphics: gfx,
+    };
+    match entry::entry_at(section, va) {
+        Err(r) => Step::Refused(r),
+        Ok(e) => {
             let s = pool::put_at(pool, i, va, Kind::Entry, row as u64, 1);
             if let Stored::Full = s {
                 return Step::Refused(Refusal::TableTooShort);

@@ -21,8 +21,8 @@ use Rattle.format.specs.Tables.{list, Rows, rows, Tables, Room, list_room, words
 use Rattle.format.specs.Read.{Step, store_list, read_new, read_list}
 use Rattle.tables.proofs.Laid.{sets-laid}
 use Rattle.blocks.specs.Pool.{pool_row, Stores}
-use Rattle.blocks.specs.declared.pool.Stored.{Stored}
-use Rattle.blocks.specs.declared.pool.Stored.TheVariants.{Done, Full}
+use Rattle.format.specs.declared.Refusal.{Refusal}
+use Rattle.std.specs.Prelude.{Result, Ok, Err}
 use Rattle.blocks.proofs.Storing.{put-done, tables-done, tables-full}
 use Rattle.read_lists.specs.Lists.{matrix_table, index_table, twin, rows_in}
 use Rattle.read_lists.specs.Storing.{taken_if, Stored as StoredBy, Takes, Copies, TakesNew, ReadsNewList}
@@ -125,13 +125,13 @@ both_same {a} {b} {m} {n} e =
 
 module _ {l : ListTable} {used : ℕ} {r : Listed} {t₀ t p₀ p : List ℕ} (room : Room) (va : ℕ) where
   put_by :
-      (f c z : ℕ) (v : Tables) (d : Stored) → Stores (pool_row va (list l) f c) d p₀ p → r ≡ listed_by d (At f c z) →
+      (f c z : ℕ) (v : Tables) (d : Result (Unit {0}) Refusal) → Stores (pool_row va (list l) f c) d p₀ p → r ≡ listed_by d (At f c z) →
       z ≡ length (words_in l v.lists) → HoldsList l room.pool v t₀ t p₀ →
       ListComes l room.pool (put room va (list l) (rows f c) v >>= λ x. done (Some (rows f c), x)) used r t₀ t p
-  put_by f c z v Done w e q h =
+  put_by f c z v (Ok x) w e q h =
       rw (tables-done room v va (list l) (rows f c) w h.pool refl)
       (record { answer = rw (e, q) refl; tables = record { own = h.own; pool = put-done w h.pool refl } })
-  put_by f c z v Full w e q h =
+  put_by f c z v (Err x) w e q h =
       rw (tables-full room v va (list l) (rows f c) w h.pool refl) (record { answer = rw e refl; tables = tt })
 
   pool_by :

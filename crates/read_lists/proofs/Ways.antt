@@ -1,7 +1,7 @@
 -- Laws of a list under the pool: the way that it comes into its table, and the row that it takes. Assumes nothing.
 use mathlib.Core.Path.{◌≡◌, refl, sym, ap, ◌∙◌}
 use mathlib.Core.Bool.{true, false}
-use Rattle.std.specs.Prelude.{Option}
+use Rattle.std.specs.Prelude.{Option, None, Some, Result, Ok, Err}
 use mathlib.Core.List.{List}
 use Prim.Native.Nat.{ℕ, ◌+◌, ◌<◌}
 use native.Mathlib.Omega.{arith}
@@ -10,14 +10,9 @@ use lib.Dec.{eqb}
 use Rattle.format.specs.Tables.{ListTable, inverse_table, local_table, parents_table, children_table, table_number, list_kind}
 use Rattle.format.specs.Tables.{Kind, skeleton, buckets, entry, block, bone, string, list, same_kind, Rows, rows, Pooled}
 use Rattle.format.specs.declared.Refusal.{Refusal}
-use Rattle.format.specs.declared.Refusal.TheVariants.{TableTooShort}
 use Rattle.blocks.specs.Kinds.{meant_kind, list_code, kind_code}
 use Rattle.blocks.specs.Pool.{meant_found, pool_row, Finds, Stores}
-use Rattle.blocks.specs.declared.kinds.Kind as Code
-use Rattle.blocks.specs.declared.pool.Found.{Found}
-use Rattle.blocks.specs.declared.pool.Found.TheVariants.{Nothing, At as found_at}
-use Rattle.blocks.specs.declared.pool.Stored.{Stored}
-use Rattle.blocks.specs.declared.pool.Stored.TheVariants.{Done, Full}
+use Rattle.blocks.specs.declared.pool.Pooled as Code
 use Rattle.blocks.proofs.Codes.{kind_code_inj}
 use Rattle.read_lists.specs.Pooling.{way_over, way_of, Leads, Pools}
 use Rattle.read_lists.specs.declared.Listed.{Listed}
@@ -74,23 +69,32 @@ module _ (l : ListTable) (s : Rows) where
 
 -- ---- the ways out of `way_of`
 
-module _ {t : List ℕ} (l : ListTable) {va : ℕ} {o : Found} (m : Finds t va o) where
+module _ {t : List ℕ} (l : ListTable) {va : ℕ} {o : Option Code.Pooled} (m : Finds t va o) where
   leads_by : (w : Way) {f : Option Pooled} → meant_found va o ≡ f → way_of l f ≡ w → Leads t l va w
   leads_by w e d = record { leads = λ h. sym (ap (way_of l) (sym (m.found h) ∙ e) ∙ d) }
 
-  pub leads-new : o ≡ Nothing → Leads t l va New
+  pub leads-new : o ≡ None → Leads t l va New
   leads-new e = leads_by New (ap (meant_found va) e) refl
 
-  module _ {k : Code.Kind} {f c : ℕ} (e : o ≡ found_at k f c) where
-    pub leads_again : kind_code (meant_kind k) ≡ kind_code (list l) → Leads t l va (Again f c)
-    leads_again d = leads_by (Again f c) (ap (meant_found va) e) (way_again l (rows f c) (meant_kind k) d)
+  module _ {p : Code.Pooled} (e : o ≡ Some p) where
+    abbrev k : Kind
+    k = meant_kind p.kind
+
+    abbrev f : ℕ
+    f = p.stored.first
+
+    abbrev c : ℕ
+    c = p.stored.count
+
+    pub leads_again : kind_code k ≡ kind_code (list l) → Leads t l va (Again f c)
+    leads_again d = leads_by (Again f c) (ap (meant_found va) e) (way_again l (rows f c) k d)
 
     pub leads_copy :
-        same_kind (meant_kind k) (list l) ≡ true → (kind_code (meant_kind k) ≡ kind_code (list l) → ⊥) → Leads t l va (Copy f c)
-    leads_copy g d = leads_by (Copy f c) (ap (meant_found va) e) (way_copy l (rows f c) (meant_kind k) g d)
+        same_kind k (list l) ≡ true → (kind_code k ≡ kind_code (list l) → ⊥) → Leads t l va (Copy f c)
+    leads_copy g d = leads_by (Copy f c) (ap (meant_found va) e) (way_copy l (rows f c) k g d)
 
-    pub leads_over : same_kind (meant_kind k) (list l) ≡ false → Leads t l va Over
-    leads_over g = leads_by Over (ap (meant_found va) e) (way_over_lem l (rows f c) (meant_kind k) g)
+    pub leads_over : same_kind k (list l) ≡ false → Leads t l va Over
+    leads_over g = leads_by Over (ap (meant_found va) e) (way_over_lem l (rows f c) k g)
 
 -- ---- the ways out of `pooled`
 
@@ -101,9 +105,9 @@ module _ (l : ListTable) (va : ℕ) {x : Listed} where
   pub pools-refused : (t : List ℕ) {c : Refusal} → x ≡ Refused c → Pools l va x (Refused c) t t
   pools-refused t e = rw e (record { pools = (refl, refl) })
 
-  module _ {f c u : ℕ} (e : x ≡ At f c u) {s : Stored} {t₀ t : List ℕ} (w : Stores (pool_row va (list l) f c) s t₀ t) where
-    pub pools-full : s ≡ Full → Pools l va x (Refused TableTooShort) t₀ t
+  module _ {f c u : ℕ} (e : x ≡ At f c u) {s : Result (Unit {0}) Refusal} {t₀ t : List ℕ} (w : Stores (pool_row va (list l) f c) s t₀ t) where
+    pub pools-full : {y : Refusal} → s ≡ Err y → Pools l va x (Refused y) t₀ t
     pools-full d = rw e (record { pools = record { stored = s; stores = w; answer = rw d refl } })
 
-    pub pools-done : s ≡ Done → Pools l va x (At f c u) t₀ t
+    pub pools-done : {v : Unit {0}} → s ≡ Ok v → Pools l va x (At f c u) t₀ t
     pools-done d = rw e (record { pools = record { stored = s; stores = w; answer = rw d refl } })

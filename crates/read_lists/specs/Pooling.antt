@@ -1,14 +1,12 @@
 -- How a list comes into its table, by what the pool has at its address, and the row that it takes there (docs/FORMAT.md, "Finding
 -- bytes"). Definitions only.
 use Rattle.std.specs.Prelude.{ℕ, ◌≡◌, Bool, true, false, List, eqb}
-use Rattle.std.specs.Prelude.{Option, None, Some}
+use Rattle.std.specs.Prelude.{Option, None, Some, Result, Ok, Err}
 use Rattle.format.specs.Tables.{ListTable, table_number, Kind, skeleton, buckets, entry, block, bone, string, list, same_kind}
 use Rattle.format.specs.Tables.{Rows, Pooled, find}
-use Rattle.format.specs.declared.Refusal.TheVariants.{TableTooShort}
+use Rattle.format.specs.declared.Refusal.{Refusal}
 use Rattle.blocks.specs.Hashed.{Represents}
 use Rattle.blocks.specs.Pool.{pool_row, Stores}
-use Rattle.blocks.specs.declared.pool.Stored.{Stored}
-use Rattle.blocks.specs.declared.pool.Stored.TheVariants.{Done, Full}
 use Rattle.read_lists.specs.declared.Listed.{Listed}
 use Rattle.read_lists.specs.declared.Listed.TheVariants.{Absent, At, Refused}
 use Rattle.read_lists.specs.declared.pooling.Way.{Way}
@@ -41,12 +39,12 @@ pub record Leads (t : List ℕ) (l : ListTable) (va : ℕ) (r : Way) : Type 0 wh
 -- ---- the row of a list
 
 -- the answer for a list that was to be pooled
-abbrev pub listed_by : Stored → Listed → Listed
-listed_by Done x = x
-listed_by Full x = Refused TableTooShort
+abbrev pub listed_by : Result (Unit {0}) Refusal → Listed → Listed
+listed_by (Ok u) x = x
+listed_by (Err y) x = Refused y
 
 pub record PutsRow (l : ListTable) (va f c u : ℕ) (r : Listed) (t₀ t : List ℕ) : Type 0 where
-  pub stored : Stored
+  pub stored : Result (Unit {0}) Refusal
   pub stores : Stores (pool_row va (list l) f c) stored t₀ t
   pub answer : r ≡ listed_by stored (At f c u)
 

@@ -5,8 +5,7 @@ ghost use Rattle.read_lists.specs.Pooling.{Leads, Pools};
 use crate::Listed;
 use blocks::kinds::{Kind, ListTable};
 use blocks::pool;
-use blocks::pool::{Found, Stored};
-use format::Refusal;
+use blocks::pool::Stored;
 
 // How a list comes into its table, by what the pool has at its address.
 #[derive(Clone, Copy)]
@@ -26,11 +25,12 @@ pub fn way_of(pool: &[u64], table: ListTable, va: u64) -> Way
     ensures answer { Leads pool.now (meant_table table) va result }
 {
     match pool::find(pool, va) {
-        Found::Nothing => Way::New,
-        Found::At(kind, first, count) => {
+        None => Way::New,
+        Some(found) => {
             let list = Kind::List(table);
-            if kind.same(list) {
-                if kind.code() == list.code() {
+            let Stored { first, count } = found.stored;
+            if found.kind.same(list) {
+                if found.kind == list {
                     return Way::Again(first, count);
                 }
                 return Way::Copy(first, count);
@@ -51,11 +51,13 @@ pub fn pooled(pool: &mut [u64], table: ListTable, va: u64, list: Listed) -> List
             pool,
             va,
             Kind::List(table),
-            first as u64,
-            count as u64,
+            Stored {
+                first: first as u64,
+                count: count as u64,
+            },
         ) {
-            Stored::Full => Listed::Refused(Refusal::TableTooShort),
-            Stored::Done => Listed::At(first, count, used),
+            Err(r) => Listed::Refused(r),
+            Ok(()) => Listed::At(first, count, used),
         },
     }
 }

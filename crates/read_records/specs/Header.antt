@@ -1,15 +1,11 @@
 -- The header of a skeleton as the code has it, and the format's header that it stands for (docs/FORMAT.md, "Records").
 -- Definitions only.
 use Rattle.std.specs.Prelude.{ℕ, List}
-use Rattle.format.specs.Result.{Res, refused, done}
-use Rattle.format.specs.Refusal.{number}
 use Rattle.format.specs.Field.{field_at}
 use Rattle.format.specs.Bone.{words4}
 use Rattle.format.specs.Records as format
 use Rattle.format.specs.Words.{meant_words4}
 use Rattle.read_records.specs.declared.header.Header.{Header}
-use Rattle.read_records.specs.declared.header.Headed.{Headed}
-use Rattle.read_records.specs.declared.header.Headed.TheVariants.{At, Refused}
 
 -- the fields of bytes of any number
 unfoldable pub header_in : List ℕ → format.Header
@@ -43,7 +39,3 @@ meant_header h =
       bone_count = h.bone_count;
       child_count = h.child_count;
     }
-
-abbrev pub meant_headed : Headed → Res format.Header
-meant_headed (At h) = done (meant_header h)
-meant_headed (Refused x) = refused (number x)

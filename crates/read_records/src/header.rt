@@ -1,11 +1,11 @@
 // The header of a skeleton: the fields that reading takes from its record (docs/FORMAT.md, "Records").
 ghost use Rattle.std.specs.Prelude.{◌≡◌};
+ghost use Rattle.format.specs.Refusal.{outcome_by};
 ghost use Rattle.format.specs.Records.{header};
-ghost use Rattle.blocks.specs.Places.{section};
-ghost use Rattle.read_records.specs.Header.{header_in, meant_header, meant_headed};
+ghost use Rattle.blocks.specs.Places.{section_of};
+ghost use Rattle.read_records.specs.Header.{header_in, meant_header};
 
-use blocks::places;
-use blocks::places::Located;
+use blocks::places::Section;
 use format::{Refusal, Words4};
 
 // The fields, by their offsets.
@@ -30,14 +30,8 @@ pub struct Header {
     pub child_count: u16,
 }
 
-#[derive(Clone, Copy)]
-pub enum Headed {
-    At(Header),
-    // 10 where the address is in neither half, 11 where not all of the 98 bytes stand
-    Refused(Refusal),
-}
-
 // The header that 98 bytes hold.
+#[tactic(auto, unfolding(crate::specs::Header::header_in))]
 fn header_in(b: &[u8]) -> Header
     ensures { meant_header result ≡ header_in b.now }
 {
@@ -62,18 +56,10 @@ fn header_in(b: &[u8]) -> Header
 }
 
 // The header of the skeleton at an address. Its bytes up to the last field read must stand: 10, then 11.
-pub fn header_at(sys: &[u8], gfx: &[u8], root: u64) -> Headed
-    ensures answer { meant_headed result ≡ header (section sys.now gfx.now) root }
+#[tactic(auto, unfolding(format::specs::Records::header))]
+pub fn header_at(section: Section, root: u64) -> Result<Header, Refusal>
+    ensures answer { outcome_by meant_header result ≡ header (section_of section.entry) root }
 {
-    match places::locate(sys, gfx, root, format::SKELETON_READ) {
-        Located::System(o) => {
-            let e = o + format::SKELETON_READ;
-            Headed::At(header_in(&sys[o..e]))
-        }
-        Located::Graphics(o) => {
-            let e = o + format::SKELETON_READ;
-            Headed::At(header_in(&gfx[o..e]))
-        }
-        Located::Refused(r) => Headed::Refused(r),
-    }
+    let bytes = section.slice(root, format::SKELETON_READ)?;
+    Ok(header_in(bytes))
 }

@@ -1,7 +1,7 @@
 // Reading a skeleton and looking up a tag replayed (docs/FORMAT.md, "Reading and writing a skeleton", "Lookup and check").
 use crate::buffers;
+use blocks::places::Section;
 use format::Refusal;
-use lookup::Looked;
 use read::Skeleton;
 
 // the parts
@@ -143,22 +143,21 @@ const TAG: usize = 2;
 
 const POSITION: usize = 4;
 
-fn looked_as(r: Looked, answer: u32, position: u32) -> bool {
+fn looked_as(r: Result<Option<u32>, Refusal>, answer: u32, position: u32) -> bool {
     match r {
-        Looked::Found(p) => answer == buffers::DONE && p == position,
-        Looked::Nothing => answer == rig_answers::NOTHING,
-        Looked::Refused(e) => answer == u32::from(e),
+        Ok(Some(p)) => answer == buffers::DONE && p == position,
+        Ok(None) => answer == rig_answers::NOTHING,
+        Err(e) => answer == u32::from(e),
     }
 }
 
 pub(crate) fn lookup_agrees(case: &[u8], root: u64, answer: u32) -> bool {
     let others = replay_sample::part(case, OTHERS);
     let tag = fields::read::<u16>(others, 4 * TAG);
-    let r = lookup::lookup(
-        replay_sample::part(case, SYSTEM),
-        replay_sample::part(case, GRAPHICS),
-        root,
-        tag,
-    );
+    let section = Section {
+        system: replay_sample::part(case, SYSTEM),
+        graphics: replay_sample::part(case, GRAPHICS),
+    };
+    let r = lookup::lookup(section, root, tag);
     looked_as(r, answer, replay_sample::number32(others, POSITION))
 }

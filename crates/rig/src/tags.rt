@@ -4,6 +4,8 @@ ghost use Rattle.format.specs.Lookup as Definitions;
 ghost use Rattle.blocks.specs.Places.{section};
 ghost use Rattle.rig_answers.specs.Told.{Told};
 
+use blocks::places::Section;
+
 // The position that the skeleton at a root address stores for a tag, as `lookup::lookup` says, which also has the order of the
 // refusals. `position` is 0 unless one is found.
 #[unsafe(no_mangle)]
@@ -17,7 +19,11 @@ pub extern "C" fn rig_lookup(
     ensures told { Told (Definitions.lookup (section sys.now gfx.now) root tag)
         result position.new }
 {
-    let r = lookup::lookup(sys, gfx, root, tag);
+    let section = Section {
+        system: sys,
+        graphics: gfx,
+    };
+    let r = lookup::lookup(section, root, tag);
     *position = rig_answers::looked_position(r);
-    rig_answers::looked_status(r)
+    rig_answers::status(r)
 }

@@ -9,12 +9,10 @@ ghost use Rattle.format.specs.Result.{done, status};
 ghost use Rattle.format.specs.Tables.{part_length};
 ghost use Rattle.read.specs.Parts.{meant_part};
 ghost use Rattle.read.specs.Reads.{meant_skeleton, meant_read};
-ghost use Rattle.lookup.specs.Looked.{looked_of};
 ghost use Rattle.rig_answers.specs.Answer.{counted, read_status, given, number_if, present};
 ghost use Rattle.rig_answers.specs.Told.{skeleton_fields};
 
 use format::Refusal;
-use lookup::Looked;
 use read::Skeleton;
 
 // The status of "none".
@@ -39,6 +37,16 @@ pub fn given(r: Result<Option<usize>, Refusal>) -> usize
 {
     match r {
         Ok(Some(n)) => n,
+        _ => 0,
+    }
+}
+
+// The same of the position that a lookup gives. Its own function: a `u32` is not `Into<usize>`.
+pub fn looked_position(r: Result<Option<u32>, Refusal>) -> usize
+    ensures { result ≡ given (outcome r) }
+{
+    match r {
+        Ok(Some(position)) => position as usize,
         _ => 0,
     }
 }
@@ -114,27 +122,4 @@ pub fn written_count(answer: Result<usize, Refusal>) -> usize
     ensures { result ≡ counted (outcome answer) }
 {
     answer.unwrap_or(0)
-}
-
-// ---- lookup of a tag
-
-pub fn looked_status(r: Looked) -> u32
-    ensures { result ≡ read_status (looked_of r) }
-{
-    match r {
-        Looked::Found(_) => 0,
-        Looked::Nothing => NOTHING,
-        Looked::Refused(e) => u32::from(e),
-    }
-}
-
-// The position found, 0 else.
-pub fn looked_position(r: Looked) -> usize
-    ensures { result ≡ given (looked_of r) }
-{
-    match r {
-        Looked::Found(p) => p as usize,
-        Looked::Nothing => 0,
-        Looked::Refused(_) => 0,
-    }
 }

@@ -39,9 +39,6 @@ use Rattle.format.specs.Words.{meant_words4}
 use Rattle.write.specs.Outcome.{outcome, Writes}
 use Rattle.tables.specs.Working.{Working, room_in}
 use Rattle.format.specs.declared.Words4.{Words4}
-use Rattle.std.specs.Prelude.{Ok}
-use Rattle.lookup.specs.Looked.{looked_of}
-use Rattle.lookup.specs.declared.Looked.{Looked}
 use Rattle.check_steps.proofs.Answers.{accepted, skeleton-is}
 use Rattle.verify.specs.Checks.{leaves_by, Checks}
 use Rattle.read_laws.specs.Bytes.{Bytes8, SectionBytes}
@@ -98,8 +95,8 @@ found_at sec root t₀ t droom n bytes says left h tag small =
 
 found :
     (sec : Section) (root : ℕ) (t₀ t : read.Lent) (x₀ x : Working) (n : ℕ) → SectionBytes sec → Checks sec root (Ok (Some n)) t₀ t x₀ x →
-    2 ≤ n → (tag : ℕ) → tag ≤ 65535 → (r : Looked) → looked_of r ≡ lookup sec root tag →
-    Right (tags (bones_of n t.bones)) tag (looked_of r)
+    2 ≤ n → (tag : ℕ) → tag ≤ 65535 → (r : Result (Option ℕ) Refusal) → refusal.outcome r ≡ lookup sec root tag →
+    Right (tags (bones_of n t.bones)) tag (refusal.outcome r)
 found sec root t₀ t x₀ x n bytes c h tag small r looked =
     subst (Right (tags (bones_of n t.bones)) tag) (sym looked)
     (found_at sec root t₀ t (room_in x₀) n bytes (sym c.answer) c.tables h tag small)

@@ -24,8 +24,6 @@ use Rattle.derive_matrices.specs.Transforming.{matrices_result}
 use Rattle.read.specs.Lent as read
 use Rattle.read.specs.Lent.{read_room}
 use Rattle.read.specs.Reads.{Reads, meant_read}
-use Rattle.lookup.specs.Looked.{looked_of}
-use Rattle.lookup.specs.declared.Looked.{Looked}
 use Rattle.verify.specs.Checks.{Checks}
 use Rattle.write.specs.Outcome.{outcome, Writes}
 use Rattle.joints.specs.Reading.{table_read, joints_if, whether}
@@ -56,7 +54,7 @@ pub record Refusals : Type 0 where
       (sec : Section) (root : ℕ) (t₀ t : read.Lent) (x₀ x : Working) (r : Result (Option ℕ) Refusal) → Checks sec root r t₀ t x₀ x →
       RefusesOnly check_refusals (refusal.outcome r)
   pub looking_up :
-      (sec : Section) (root tag : ℕ) (r : Looked) → looked_of r ≡ lookup sec root tag → RefusesOnly lookup_refusals (looked_of r)
+      (sec : Section) (root tag : ℕ) (r : Result (Option ℕ) Refusal) → refusal.outcome r ≡ lookup sec root tag → RefusesOnly lookup_refusals (refusal.outcome r)
   pub joints_reading :
       (sys gfx : List ℕ) (root : ℕ) (rotation₀ translation₀ rotation translation : List ℕ) (r : Result (Option Joints) Refusal) →
       refusal.outcome_by (joints_if rotation translation) r ≡ table_read sys gfx root rotation₀ translation₀ →

@@ -2,6 +2,7 @@
 -- the graphics bytes that the call is lent, t₀ and x₀ are the lent tables before it, t and x the same after it.
 -- `proofs/Theorems.antt` proves them from the definitions' demand 3 (`promises`) and the contracts. Definitions only.
 use Rattle.std.specs.Prelude.{Result, Ok, Option, Some}
+use Rattle.format.specs.Refusal as refusal
 use Rattle.format.specs.declared.Refusal.{Refusal}
 use Rattle.std.specs.Prelude.{◌≡◌, ◌↔◌, ℕ, ◌≤◌, List, length}
 use Rattle.format.specs.Section.{Section}
@@ -23,9 +24,6 @@ use Rattle.read.specs.declared.Skeleton.{Skeleton}
 use Rattle.write.specs.Outcome.{outcome, Writes}
 use Rattle.tables.specs.Working.{Working, room_in}
 use Rattle.format.specs.declared.Words4.{Words4}
-use Rattle.std.specs.Prelude.{Ok}
-use Rattle.lookup.specs.Looked.{looked_of}
-use Rattle.lookup.specs.declared.Looked.{Looked}
 use Rattle.read.specs.Parts.{part_rows}
 use Rattle.verify.specs.Checks.{Checks}
 use Rattle.read_laws.specs.Bytes.{Bytes8, SectionBytes}
@@ -77,8 +75,8 @@ pub record Theorems : Type 0 where
   -- gives the greatest position bearing that tag, or none exactly when no bone bears it." The bones read are those in their table.
   pub found :
       (sec : Section) (root : ℕ) (t₀ t : read.Lent) (x₀ x : Working) (n : ℕ) → SectionBytes sec → Checks sec root (Ok (Some n)) t₀ t x₀ x →
-      2 ≤ n → (tag : ℕ) → tag ≤ 65535 → (r : Looked) → looked_of r ≡ lookup sec root tag →
-      Right (tags (bones_of n t.bones)) tag (looked_of r)
+      2 ≤ n → (tag : ℕ) → tag ≤ 65535 → (r : Result (Option ℕ) Refusal) → refusal.outcome r ≡ lookup sec root tag →
+      Right (tags (bones_of n t.bones)) tag (refusal.outcome r)
   -- Back. "Whatever bones, names and free words our writer takes, and whatever the graphics section holds, the section it writes is
   -- accepted with such tables and reads back the same number of bones, in the same order and bit for bit."
   pub back :

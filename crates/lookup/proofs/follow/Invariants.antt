@@ -1,13 +1,11 @@
--- `lookup::follow` meets its contract. The loop's invariant: the walk from the address reached, with the entries left, finds what the
--- whole walk does. Assumes nothing.
+-- `lookup::follow` meets its contract: the walk from the address reached, with the entries left, finds what the whole walk does.
+-- Assumes nothing.
 use mathlib.Core.Path.{◌≡◌}
+use Prim.Native.Nat.{◌-◌}
 use Rattle.format.specs.Lookup as Definitions
-use Rattle.blocks.specs.Places.{section}
+use Rattle.blocks.specs.Places.{section_of}
 use Rattle.lookup.proofs.follow.Given as goal
 
-abbrev pub invariant-loop-at : goal.invariant-loop-at
-invariant-loop-at l =
-    Definitions.follow (section l.sys l.gfx) l.tag l.left l.at ≡ Definitions.follow (section l.sys l.gfx) l.tag l.n l.va
-
-abbrev pub decreases-loop-at : goal.decreases-loop-at
-decreases-loop-at l = l.left
+abbrev pub invariant-loop : goal.invariant-loop
+invariant-loop l =
+    Definitions.follow (section_of l.section) l.tag (l.n - l.counter) l.at ≡ Definitions.follow (section_of l.section) l.tag l.n l.va

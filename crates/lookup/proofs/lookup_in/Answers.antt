@@ -1,43 +1,29 @@
--- `lookup::lookup_in` meets its contract: the bucket array in the half that `locate` names, then the walk. Assumes nothing.
-use mathlib.Core.Path.{◌∙◌}
+-- `lookup::lookup_in` meets its contract: the tag's pointer stands in the array. Assumes nothing.
+use Prim.Native.Nat.{ℕ, zero, suc, ◌*◌, ◌%◌, ◌<◌}
+use native.Mathlib.Nat.{mod-lt}
 use native.Mathlib.Omega.{arith}
-use Rattle.blocks.proofs.Standing.{system-stands, graphics-stands}
-use Rattle.lookup.proofs.Walking.{no_pointer, no_buckets, bucket_lt, array-system, array-graphics, array-refused}
+use mathlib.Core.Path.{◌≡◌, refl, ap}
+use mathlib.Core.List.{List}
+use lib.ListN.{length}
+use Rattle.format.specs.Result.{done}
+use Rattle.format.specs.Field.{field_at}
+use Rattle.format.specs.Section.{Section, part}
+use Rattle.format.specs.Lookup as Definitions
+use Rattle.fields.proofs.Laws.{field_at-stands}
 use Rattle.lookup.proofs.lookup_in.Goals as goal
 
-pub returns-then-va-eq0 : goal.returns-then-va-eq0
-returns-then-va-eq0 c = no_pointer _ _ _ _ _ c.if-va-eq0.true
+bucket :
+    (s : Section) (tag n va c : ℕ) (b : List ℕ) → (va ≡ 0 → ⊥) → (c ≡ 0 → ⊥) → done b ≡ part s va (8 * c) →
+    length b ≡ 8 * c → Definitions.follow s tag n (field_at 8 b (8 * (tag % c))) ≡ Definitions.lookup_in s tag n va c
+unfolding Definitions.lookup_in
+bucket s tag n zero c b h k e l = absurd (h refl)
+bucket s tag n (suc a) zero b h k e l = absurd (k refl)
+bucket s tag n (suc a) (suc c) b h k e l =
+    let m : tag % suc c < suc c = mod-lt tag (omega arith) in
+    rw (← e) (ap (Definitions.follow s tag n) (field_at-stands 8 b (8 * (tag % suc c)) (omega arith)))
 
-pub returns-then-c-eq0 : goal.returns-then-c-eq0
-returns-then-c-eq0 c = no_buckets _ _ _ _ _ c.if-va-eq0.false c.if-c-eq0.true
-
-pub overflow_cast-at : goal.overflow_cast-at
-overflow_cast-at c =
-    omega (arith, bucket_lt c.args.tag c.args.c c.if-c-eq0.false, c.ranges.c)
-
-pub overflow_mul-at : goal.overflow_mul-at
-overflow_mul-at c =
-    omega (arith, bucket_lt c.args.tag c.args.c c.if-c-eq0.false, c.ranges.c)
-
-pub overflow_add-o : goal.overflow_add-o
-overflow_add-o c =
-    omega (arith, bucket_lt c.args.tag c.args.c c.if-c-eq0.false, system-stands c.locate.ensures.answer c.in-System.is)
-
-pub overflow_add-o-in-Graphics : goal.overflow_add-o-in-Graphics
-overflow_add-o-in-Graphics c =
-    omega (arith, bucket_lt c.args.tag c.args.c c.if-c-eq0.false, graphics-stands c.locate.ensures.answer c.in-Graphics.is)
-
-pub returns-in-System : goal.returns-in-System
-returns-in-System c =
-    c.follow.ensures
-    ∙ array-system _ _ _ c.if-va-eq0.false c.if-c-eq0.false c.locate.ensures.answer c.in-System.is c.read-first.ensures.answer
-
-pub returns-in-Graphics : goal.returns-in-Graphics
-returns-in-Graphics c =
-    c.follow-in-Graphics.ensures
-    ∙ array-graphics _ _ _ c.if-va-eq0.false c.if-c-eq0.false c.locate.ensures.answer c.in-Graphics.is
-    c.read-first-in-Graphics.ensures.answer
-
-pub returns-in-Refused : goal.returns-in-Refused
-returns-in-Refused c =
-    array-refused _ _ _ c.if-va-eq0.false c.if-c-eq0.false c.locate.ensures.answer c.in-Refused.is
+pub returns : goal.returns
+returns c =
+    let e = rw c.from.ensures at c.in_ok-pointers.ensures.answer in
+    let l = rw c.from.ensures at c.in_ok-pointers.ensures.size in
+    rw (c.follow.ensures, c.u64_at-first.ensures.answer, c.from-2.ensures) (bucket _ _ _ _ _ _ c.if-va-eq0.false c.if-c-eq0.false e l)

@@ -2,46 +2,43 @@
 use mathlib.Core.Path.{◌≡◌, refl, ◌∙◌}
 use Rattle.std.proofs.lemmas.Result.{err_from_is_err_and}
 use Rattle.read.proofs.Filling.{fill_no_header, fill-no_rows, fill_no_matrices, fill_no_indices, fill-full, fill_done}
-use Rattle.blocks.specs.declared.pool.Stored.{Stored}
-use Rattle.blocks.specs.declared.pool.Stored.TheVariants.{Done, Full}
 use Rattle.read.proofs.fill.Goals as goal
 
--- a row that is not refused is stored
-stored : (s : Stored) → (s ≡ Full → ⊥) → s ≡ Done
-stored Done n = refl
-stored Full n = absurd (n refl)
-
-pub returns-in-Refused : goal.returns-in-Refused
-returns-in-Refused c = fill_no_header _ _ _ _ _ _ _ _ _ _ _ c.header_at.ensures.answer c.in-Refused.is
+pub returns-in_err-h : goal.returns-in_err-h
+returns-in_err-h c =
+    let p = err_from_is_err_and c.from_residual.result c.from_residual.ensures.1 in
+    rw (p.1, p.2) (fill_no_header _ _ _ _ _ _ _ _ _ _ _ c.header_at.ensures.answer c.in_err-h.was)
 
 pub returns-in_err-buckets_read : goal.returns-in_err-buckets_read
 returns-in_err-buckets_read c =
-    let p = err_from_is_err_and c.from_residual.result c.from_residual.ensures.1 in
-    rw (p.1, p.2) (fill-no_rows _ _ _ _ _ _ _ _ _ _ _ c.header_at.ensures.answer c.in-At.is c.read_rows.ensures.tables c.in_err-buckets_read.was)
+    let p = err_from_is_err_and c.from_residual-in_err-buckets_read.result c.from_residual-in_err-buckets_read.ensures.1 in
+    rw (p.1, p.2) (fill-no_rows _ _ _ _ _ _ _ _ _ _ _ c.header_at.ensures.answer c.in_ok-h.was c.read_rows.ensures.tables c.in_err-buckets_read.was)
 
 pub returns-in_err-inverse_read : goal.returns-in_err-inverse_read
 returns-in_err-inverse_read c =
     let p = err_from_is_err_and c.from_residual-in_err-inverse_read.result c.from_residual-in_err-inverse_read.ensures.1 in
     rw (p.1, p.2)
-    (fill_no_matrices _ _ _ _ _ _ _ _ _ _ _ c.header_at.ensures.answer c.in-At.is c.read_rows.ensures.tables c.in_ok-buckets_read.was
+    (fill_no_matrices _ _ _ _ _ _ _ _ _ _ _ c.header_at.ensures.answer c.in_ok-h.was c.read_rows.ensures.tables c.in_ok-buckets_read.was
     c.read_matrices.ensures.tables c.in_err-inverse_read.was)
 
 pub returns-in_err-parents_read : goal.returns-in_err-parents_read
 returns-in_err-parents_read c =
     let p = err_from_is_err_and c.from_residual-in_err-parents_read.result c.from_residual-in_err-parents_read.ensures.1 in
     rw (p.1, p.2)
-    (fill_no_indices _ _ _ _ _ _ _ _ _ _ _ c.header_at.ensures.answer c.in-At.is c.read_rows.ensures.tables c.in_ok-buckets_read.was
+    (fill_no_indices _ _ _ _ _ _ _ _ _ _ _ c.header_at.ensures.answer c.in_ok-h.was c.read_rows.ensures.tables c.in_ok-buckets_read.was
     c.read_matrices.ensures.tables c.in_ok-inverse_read.was c.read_indices.ensures.tables c.in_err-parents_read.was)
 
-pub returns-in-Full : goal.returns-in-Full
-returns-in-Full c =
-    fill-full _ _ _ _ _ _ _ _ _ _ _ c.header_at.ensures.answer c.in-At.is c.read_rows.ensures.tables c.in_ok-buckets_read.was
+pub returns-in_err-put : goal.returns-in_err-put
+returns-in_err-put c =
+    let p = err_from_is_err_and c.from_residual-in_err-put.result c.from_residual-in_err-put.ensures.1 in
+    rw (p.1, p.2)
+    (fill-full _ _ _ _ _ _ _ _ _ _ _ c.header_at.ensures.answer c.in_ok-h.was c.read_rows.ensures.tables c.in_ok-buckets_read.was
     c.read_matrices.ensures.tables c.in_ok-inverse_read.was c.read_indices.ensures.tables c.in_ok-parents_read.was
-    c.keep.ensures.table c.put.ensures.table c.in-Full.is
+    c.keep.ensures.table c.put.ensures.table c.in_err-put.was)
 
 pub returns : goal.returns
 returns c =
-    fill_done _ _ _ _ _ _ _ _ _ _ _ c.header_at.ensures.answer c.in-At.is c.read_rows.ensures.tables c.in_ok-buckets_read.was
+    fill_done _ _ _ _ _ _ _ _ _ _ _ c.header_at.ensures.answer c.in_ok-h.was c.read_rows.ensures.tables c.in_ok-buckets_read.was
     c.read_matrices.ensures.tables c.in_ok-inverse_read.was c.read_indices.ensures.tables c.in_ok-parents_read.was
-    c.keep.ensures.table c.put.ensures.table (stored _ c.in_default.not-Full) (c.keep.auto.bones ∙ c.read_rows.auto.bones) c.read_rows.auto.buckets
+    c.keep.ensures.table c.put.ensures.table c.in_ok-put.was (c.keep.auto.bones ∙ c.read_rows.auto.bones) c.read_rows.auto.buckets
     c.read_rows.auto.entries c.read_matrices.auto.local

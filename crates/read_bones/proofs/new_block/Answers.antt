@@ -8,17 +8,17 @@ returns-in-Refused c =
     c.header_at-h.ensures _ _
     c.in-Refused.is
 
-pub returns-in-Done-put : goal.returns-in-Done-put
-returns-in-Done-put c =
+pub returns-in-Ok : goal.returns-in-Ok
+returns-in-Ok c =
     block-done _ c.args.pointer c.args.n c.args.used c.requires c.header_at-h.ensures _ _
     c.in_default.is c.read_bones-s.ensures c.in-Done.is
-    c.put.ensures.table c.in-Done-put.is
+    c.put.ensures.table c.in-Ok.is
 
-pub returns-in-Full : goal.returns-in-Full
-returns-in-Full c =
+pub returns-in-Err : goal.returns-in-Err
+returns-in-Err c =
     block-full _ c.args.pointer c.args.n c.args.used c.requires c.header_at-h.ensures _ _
     c.in_default.is c.read_bones-s.ensures c.in-Done.is
-    c.put.ensures.table c.in-Full.is
+    c.put.ensures.table c.in-Err.is
 
 pub returns-in-Refused-s : goal.returns-in-Refused-s
 returns-in-Refused-s c =

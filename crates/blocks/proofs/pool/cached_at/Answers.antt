@@ -4,35 +4,35 @@ use Rattle.blocks.specs.Kinds.{meant_kind}
 use Rattle.blocks.proofs.Table.{cached_nothing, cached_here, cached_other}
 use Rattle.blocks.proofs.pool.cached_at.Goals as goal
 
-pub returns-then-same : goal.returns-then-same
-returns-then-same c =
+pub returns-in-None : goal.returns-in-None
+returns-in-None c =
+    record {
+      answer =
+          record {
+            at = λ va p. cached_nothing c.args.pool.now (meant_kind c.args.kind) va (c.row_at.ensures.at va p) c.in-None.is;
+          };
+    }
+
+pub returns-in-Some : goal.returns-in-Some
+returns-in-Some c =
     record {
       answer =
           record {
             at =
                 λ va p.
-                cached_here c.args.pool.now (meant_kind c.args.kind) va (c.row_at.ensures.at va p) _ _ _
-                c.in-At.is (sym c.same.ensures.answer ∙ c.if-same.true);
+                cached_here c.args.pool.now (meant_kind c.args.kind) va (c.row_at.ensures.at va p) _
+                c.in-Some.is (sym c.same.ensures.answer ∙ c.if-same.true);
           };
     }
 
-pub returns-in-Nothing : goal.returns-in-Nothing
-returns-in-Nothing c =
-    record {
-      answer =
-          record {
-            at = λ va p. cached_nothing c.args.pool.now (meant_kind c.args.kind) va (c.row_at.ensures.at va p) c.in-Nothing.is;
-          };
-    }
-
-pub returns-else-same : goal.returns-else-same
-returns-else-same c =
+pub returns-in-Some-2 : goal.returns-in-Some-2
+returns-in-Some-2 c =
     record {
       answer =
           record {
             at =
                 λ va p.
-                cached_other c.args.pool.now (meant_kind c.args.kind) va (c.row_at.ensures.at va p) _ _ _
-                c.in-At.is (sym c.same.ensures.answer ∙ c.if-same.false);
+                cached_other c.args.pool.now (meant_kind c.args.kind) va (c.row_at.ensures.at va p) _
+                c.in-Some.is (sym c.same.ensures.answer ∙ c.if-same.false);
           };
     }

@@ -12,7 +12,7 @@ pub returns-then-rows-eq0 : goal.returns-then-rows-eq0
 returns-then-rows-eq0 c =
     record {
       table =
-          stores-none c.args.pool.now (pool_row c.args.va (meant_kind c.args.kind) c.args.first c.args.count) c.if-rows-eq0.true;
+          stores-none c.args.pool.now (pool_row c.args.va (meant_kind c.args.kind) c.args.stored.first c.args.stored.count) c.if-rows-eq0.true;
     }
 
 pub returns-then-r-rows : goal.returns-then-r-rows
@@ -20,7 +20,7 @@ returns-then-r-rows c =
     record {
       table =
           rw c.store.ensures.table
-          (stores-done c.args.pool.now (pool_row c.args.va (meant_kind c.args.kind) c.args.first c.args.count) _
+          (stores-done c.args.pool.now (pool_row c.args.va (meant_kind c.args.kind) c.args.stored.first c.args.stored.count) _
           c.search-r.ensures
           c.if-r-rows.true);
     }
@@ -29,7 +29,7 @@ pub returns-then-r-rows-2 : goal.returns-then-r-rows-2
 returns-then-r-rows-2 c =
     record {
       table =
-          stores-full c.args.pool.now (pool_row c.args.va (meant_kind c.args.kind) c.args.first c.args.count) _
+          stores-full c.args.pool.now (pool_row c.args.va (meant_kind c.args.kind) c.args.stored.first c.args.stored.count) _
           c.search-r.ensures
           c.if-r-rows-2.true;
     }
@@ -49,7 +49,7 @@ returns c =
     record {
       table =
           rw c.store-2.ensures.table
-          (stores-linked c.args.pool.now (pool_row c.args.va (meant_kind c.args.kind) c.args.first c.args.count) _
+          (stores-linked c.args.pool.now (pool_row c.args.va (meant_kind c.args.kind) c.args.stored.first c.args.stored.count) _
           c.search-r.ensures
           (omega (arith, c.if-r-rows-2.false)) _
           c.link.ensures);

@@ -6,12 +6,8 @@ use Rattle.blocks.proofs.pool.put_at.Goals as goal
 
 pub returns-then-i-pool : goal.returns-then-i-pool
 returns-then-i-pool c =
+    let p = pool_row c.args.va (meant_kind c.args.kind) c.args.stored.first c.args.stored.count in
     record {
       table =
-          rw c.store.ensures.table
-          (record {
-            at = λ g. stores-done c.args.pool.now (pool_row c.args.va (meant_kind c.args.kind) c.args.first c.args.count)
-                c.args.i g
-                c.if-i-pool.true;
-          });
+          rw c.store.ensures.table (record { at = λ g. stores-done c.args.pool.now p c.args.i g c.if-i-pool.true });
     }

@@ -3,19 +3,19 @@
 use Rattle.blocks.proofs.Table.{finds-here, finds-free, finds_past}
 use Rattle.blocks.proofs.pool.row_at.Goals as goal
 
-pub returns-then-code-ne0 : goal.returns-then-code-ne0
-returns-then-code-ne0 c =
+pub returns-then-i-pool : goal.returns-then-i-pool
+returns-then-i-pool c =
+    record { at = λ va p. finds_past c.args.pool.now va c.args.i p c.if-i-pool.true }
+
+pub returns-then-code-eq0 : goal.returns-then-code-eq0
+returns-then-code-eq0 c =
+    record { at = λ va p. finds-free c.args.pool.now va c.args.i p (rw (← c.kind_in-code.ensures) c.if-code-eq0.true) }
+
+pub returns : goal.returns
+returns c =
     record {
       at =
           λ va p.
-          finds-here c.args.pool.now va c.args.i p c.from_code.result c.if-i-pool.true c.if-code-ne0.true
-          c.from_code.ensures.answer;
+          finds-here c.args.pool.now va c.args.i p c.from_code.result c.if-i-pool.false (rw (← c.kind_in-code.ensures) c.if-code-eq0.false)
+          (rw (← c.kind_in-code.ensures) c.from_code.ensures.answer);
     }
-
-pub returns-else-code-ne0 : goal.returns-else-code-ne0
-returns-else-code-ne0 c =
-    record { at = λ va p. finds-free c.args.pool.now va c.args.i p c.if-code-ne0.false }
-
-pub returns-else-i-pool : goal.returns-else-i-pool
-returns-else-i-pool c =
-    record { at = λ va p. finds_past c.args.pool.now va c.args.i p c.if-i-pool.false }

@@ -17,20 +17,20 @@ overflow_add-result c =
     let has = stored_is (has_row c.args.bones.now c.args.used) c.put_bone.result c.put_bone.ensures.answer (sym c.is_err.ensures.value ∙ c.if-is_err.false) in
     omega (arith, c.well_formed, has_row_lt c.args.bones.now c.args.used has)
 
-pub returns-in-Done : goal.returns-in-Done
-returns-in-Done c =
+pub returns-in-Ok : goal.returns-in-Ok
+returns-in-Ok c =
     bone-done _ c.args.b.now c.args.va c.args.used _
     c.read.ensures.answer c.read_name-n.ensures
     c.in-At.is c.put_bone.result c.put_bone.ensures.answer (sym c.is_err.ensures.value ∙ c.if-is_err.false)
     (c.put_at.ensures.table.at c.place-i.ensures.row) c.bone_in.result c.bone_in.ensures
-    c.put_bone.ensures.rows c.in-Done.is
+    c.put_bone.ensures.rows c.in-Ok.is
 
-pub returns-in-Full : goal.returns-in-Full
-returns-in-Full c =
+pub returns-in-Err : goal.returns-in-Err
+returns-in-Err c =
     bone-full _ c.args.b.now c.args.va c.args.used _
     c.read.ensures.answer c.read_name-n.ensures
     c.in-At.is c.put_bone.result c.put_bone.ensures.answer (sym c.is_err.ensures.value ∙ c.if-is_err.false)
-    (c.put_at.ensures.table.at c.place-i.ensures.row) _ c.in-Full.is
+    (c.put_at.ensures.table.at c.place-i.ensures.row) _ c.in-Err.is
 
 pub returns-in-Refused : goal.returns-in-Refused
 returns-in-Refused c =

@@ -7,28 +7,28 @@ use Rattle.read_chains.proofs.chains.read_entry.Goals as goal
 
 pub returns-in-Full : goal.returns-in-Full
 returns-in-Full c =
-    step_full _ _ _ c.entry_at-f.ensures.answer c.in-At.is (c.put_at-s.ensures.table.at c.requires.1) c.in-Full.is
+    step_full _ _ _ c.entry_at.ensures.answer c.in-Ok.is (c.put_at-s.ensures.table.at c.requires.1) c.in-Full.is
 
 pub overflow_add-row : goal.overflow_add-row
 overflow_add-row c =
     omega (arith, c.requires.0, room_most (length c.args.entries.now))
 
-pub returns-in-Refused : goal.returns-in-Refused
-returns-in-Refused c =
-    step_lost _ _ _ c.entry_at-f.ensures.answer c.in-Refused.is
+pub returns-in-Err : goal.returns-in-Err
+returns-in-Err c =
+    step_lost _ _ _ c.entry_at.ensures.answer c.in-Err.is
 
 pub returns-in-To : goal.returns-in-To
 returns-in-To c =
-    step_end _ _ _ c.entry_at-f.ensures.answer c.in-At.is (c.put_at-s.ensures.table.at c.requires.1) c.in_default.is c.requires.0
+    step_end _ _ _ c.entry_at.ensures.answer c.in-Ok.is (c.put_at-s.ensures.table.at c.requires.1) c.in_default.is c.requires.0
     c.link_to-l.ensures c.in-To.is c.store.ensures
 
 pub returns-in-Unread : goal.returns-in-Unread
 returns-in-Unread c =
-    step_next _ _ _ c.entry_at-f.ensures.answer c.in-At.is (c.put_at-s.ensures.table.at c.requires.1) c.in_default.is c.requires.0
+    step_next _ _ _ c.entry_at.ensures.answer c.in-Ok.is (c.put_at-s.ensures.table.at c.requires.1) c.in_default.is c.requires.0
     c.link_to-l.ensures c.in-Unread.is c.link_of-k.ensures c.store-in-Unread.ensures
 
-pub returns-in-Refused-l : goal.returns-in-Refused-l
-returns-in-Refused-l c =
-    step_other _ _ _ c.entry_at-f.ensures.answer c.in-At.is (c.put_at-s.ensures.table.at c.requires.1) c.in_default.is
+pub returns-in-Refused : goal.returns-in-Refused
+returns-in-Refused c =
+    step_other _ _ _ c.entry_at.ensures.answer c.in-Ok.is (c.put_at-s.ensures.table.at c.requires.1) c.in_default.is
     c.requires.0
-    c.link_to-l.ensures c.in-Refused-l.is
+    c.link_to-l.ensures c.in-Refused.is

@@ -17,16 +17,16 @@ returns-in-Refused c =
           pools-refused (meant_table c.args.table) c.args.va c.args.pool.now c.in-Refused.is;
     }
 
-pub returns-in-Full : goal.returns-in-Full
-returns-in-Full c =
+pub returns-in-Err : goal.returns-in-Err
+returns-in-Err c =
     record {
       answer =
-          pools-full (meant_table c.args.table) c.args.va c.in-At.is c.put.ensures.table c.in-Full.is;
+          pools-full (meant_table c.args.table) c.args.va c.in-At.is c.put.ensures.table c.in-Err.is;
     }
 
-pub returns-in-Done : goal.returns-in-Done
-returns-in-Done c =
+pub returns-in-Ok : goal.returns-in-Ok
+returns-in-Ok c =
     record {
       answer =
-          pools-done (meant_table c.args.table) c.args.va c.in-At.is c.put.ensures.table c.in-Done.is;
+          pools-done (meant_table c.args.table) c.args.va c.in-At.is c.put.ensures.table c.in-Ok.is;
     }

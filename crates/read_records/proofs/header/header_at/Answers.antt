@@ -1,34 +1,21 @@
--- `header::header_at` meets its contract: the half that holds the header, or a refusal. Assumes nothing.
-use native.Mathlib.Omega.{arith}
-use Rattle.blocks.proofs.Standing.{system-stands, graphics-stands}
-use Rattle.read_records.proofs.Headers.{header-system, header-graphics, header_refused}
+-- `header::header_at` meets its contract: the header of 98 bytes that all stand. Assumes nothing.
+use Prim.Native.Nat.{ℕ}
+use mathlib.Core.Path.{◌≡◌, refl}
+use mathlib.Core.List.{List}
+use lib.ListN.{length}
+use Rattle.format.specs.Result.{done}
+use Rattle.format.specs.Field.{or_zero}
+use Rattle.format.specs.Section.{Section, part}
+use Rattle.format.specs.Records as format
+use Rattle.read_records.specs.Header.{header_in}
 use Rattle.read_records.proofs.header.header_at.Goals as goal
 
-pub overflow_add-e : goal.overflow_add-e
-overflow_add-e c = omega (arith, system-stands c.locate.ensures.answer c.in-System.is)
+headed :
+    (s : Section) (root : ℕ) (b : List ℕ) (h : format.Header) → done b ≡ part s root 98 → length b ≡ 98 → h ≡ header_in b →
+    done h ≡ format.header s root
+unfolding format.header header_in or_zero
+headed s root b h e l i = rw (← e) (rw i (rw l refl))
 
-pub slice_bounds-header_in-end : goal.slice_bounds-header_in-end
-slice_bounds-header_in-end c = omega (arith, system-stands c.locate.ensures.answer c.in-System.is)
-
-pub overflow_add-e-in-Graphics : goal.overflow_add-e-in-Graphics
-overflow_add-e-in-Graphics c = omega (arith, graphics-stands c.locate.ensures.answer c.in-Graphics.is)
-
-pub slice_bounds-header_in-end-in-Graphics : goal.slice_bounds-header_in-end-in-Graphics
-slice_bounds-header_in-end-in-Graphics c = omega (arith, graphics-stands c.locate.ensures.answer c.in-Graphics.is)
-
-pub returns-in-System : goal.returns-in-System
-returns-in-System c =
-    record {
-      answer =
-          header-system _ _ c.locate.ensures.answer _ c.in-System.is c.header_in.ensures;
-    }
-
-pub returns-in-Graphics : goal.returns-in-Graphics
-returns-in-Graphics c =
-    record {
-      answer =
-          header-graphics _ _ c.locate.ensures.answer _ c.in-Graphics.is c.header_in-in-Graphics.ensures;
-    }
-
-pub returns-in-Refused : goal.returns-in-Refused
-returns-in-Refused c = record { answer = header_refused _ _ c.locate.ensures.answer c.in-Refused.is }
+pub returns : goal.returns
+returns c =
+    record { answer = headed _ _ _ _ c.in_ok-bytes.ensures.answer c.in_ok-bytes.ensures.size c.header_in.ensures }

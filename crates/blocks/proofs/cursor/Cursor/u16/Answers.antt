@@ -1,0 +1,10 @@
+-- `blocks::cursor::Cursor::u16` meets its contract: the bytes taken as one field. Assumes nothing.
+use mathlib.Core.Path.{ap, ◌∙◌}
+use native.Mathlib.Omega.{arith}
+use Rattle.format.specs.Field.{field_at}
+use Rattle.blocks.proofs.Cursors.{field_whole}
+use Rattle.blocks.proofs.cursor.Cursor.u16.Goals as goal
+
+pub returns-clause-answer : goal.returns-clause-answer
+returns-clause-answer c =
+    c.u16_at.ensures.answer ∙ ap (λ b. field_at 2 b 0) c.take.ensures.bytes ∙ field_whole 2 _ _ (omega arith)

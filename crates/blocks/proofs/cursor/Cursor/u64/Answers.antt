@@ -1,0 +1,10 @@
+-- `blocks::cursor::Cursor::u64` meets its contract: the bytes taken as one field. Assumes nothing.
+use mathlib.Core.Path.{ap, ◌∙◌}
+use native.Mathlib.Omega.{arith}
+use Rattle.format.specs.Field.{field_at}
+use Rattle.blocks.proofs.Cursors.{field_whole}
+use Rattle.blocks.proofs.cursor.Cursor.u64.Goals as goal
+
+pub returns-clause-answer : goal.returns-clause-answer
+returns-clause-answer c =
+    c.u64_at.ensures.answer ∙ ap (λ b. field_at 8 b 0) c.take.ensures.bytes ∙ field_whole 8 _ _ (omega arith)
