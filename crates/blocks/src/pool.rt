@@ -211,7 +211,13 @@ pub fn put(pool: &mut [u64], va: u64, kind: Kind, stored: Stored) -> Result<(), 
 }
 
 // Pools what was read at an address whose search ended at i, as `put` does.
-pub fn put_at(pool: &mut [u64], i: usize, va: u64, kind: Kind, stored: Stored) -> Result<(), Refusal>
+pub fn put_at(
+    pool: &mut [u64],
+    i: usize,
+    va: u64,
+    kind: Kind,
+    stored: Stored,
+) -> Result<(), Refusal>
     ensures table { StoresAt i (pool_row va (meant_kind kind) stored.first stored.count) result pool.old pool.new }
 {
     if i < pool.len() / POOL_WORDS {

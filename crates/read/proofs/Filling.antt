@@ -9,7 +9,6 @@ use lib.ListN.{length}
 use Rattle.format.specs.Result.{Res, refused, done, ◌>>=◌}
 use Rattle.format.specs.Refusal.{outcome_by}
 use Rattle.format.specs.declared.Refusal.{Refusal}
-use Rattle.format.specs.declared.Refusal.TheVariants.{TableTooShort}
 use Rattle.format.specs.Section.{Section, Place}
 use Rattle.format.specs.Bone.{Bone}
 use Rattle.format.specs.Records as format

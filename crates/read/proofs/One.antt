@@ -1,7 +1,7 @@
 -- The ways out of `chains_in`, `bones_in`, `matrices_in`, `indices_in` and `keep`: one part of a reading. Assumes nothing.
 use Rattle.std.specs.Prelude.{None}
 use Rattle.std.specs.Prelude.{Option}
-use Rattle.std.specs.Prelude.{Err, Ok}
+use Rattle.std.specs.Prelude.{Err, Ok, Result}
 use Prim.Native.Nat.{ℕ, ◌-◌}
 use native.Mathlib.Omega.{arith}
 use mathlib.Core.Path.{◌≡◌, refl, sym, ap, subst, ◌∙◌}
@@ -17,7 +17,6 @@ use Rattle.format.specs.Tables.{ListTable, rows, Tables, Room, words_in}
 use Rattle.format.specs.Read.{read_list}
 use Rattle.read_chains.specs.Arrays.{ReadsBuckets}
 use Rattle.read_chains.specs.declared.Buckets.{Buckets}
-use Rattle.read_chains.specs.declared.Buckets.TheVariants as B
 use Rattle.read_chains.proofs.Arrays.{buckets_as}
 use Rattle.read_bones.specs.Lent.{leaving}
 use Rattle.read_bones.specs.Blocks.{block_step, BlockStands, BlockTable, ReadsBlock}
@@ -37,8 +36,8 @@ use Rattle.read.proofs.Firsts.{array-first, list-first}
 
 -- ---- buckets with chains
 
-module _ {sec : Section} {va n : ℕ} {r : Buckets} {b₀ b e₀ e p₀ p : List ℕ} (m : ReadsBuckets sec va n 0 0 r b₀ b e₀ e p₀ p) where
-  pub chains_absent : r ≡ B.Absent → ReadsChains sec va n (Ok None) b₀ b e₀ e p₀ p
+module _ {sec : Section} {va n : ℕ} {r : Result (Option Buckets) Refusal} {b₀ b e₀ e p₀ p : List ℕ} (m : ReadsBuckets sec va n 0 0 r b₀ b e₀ e p₀ p) where
+  pub chains_absent : r ≡ Ok None → ReadsChains sec va n (Ok None) b₀ b e₀ e p₀ p
   chains_absent i =
       record {
         reads =
@@ -47,23 +46,23 @@ module _ {sec : Section} {va n : ℕ} {r : Buckets} {b₀ b e₀ e p₀ p : List
             record { t = c.t; used = 0; used_entries = 0; is = c.is; holds = c.holds };
       }
 
-  pub chains-at : {f c k l : ℕ} → r ≡ B.At f c k l → ReadsChains sec va n (Ok (Some c)) b₀ b e₀ e p₀ p
-  chains-at {f} {c} {k} {l} i =
+  pub chains-at : {x : Buckets} → r ≡ Ok (Some x) → ReadsChains sec va n (Ok (Some x.stored.count)) b₀ b e₀ e p₀ p
+  chains-at {x} i =
       record {
         reads =
             λ room h.
             let d = buckets_as m i h in
-            let z : f ≡ 0 = array-first sec room va n (rows f c) d.t d.is in
+            let z : x.stored.first ≡ 0 = array-first sec room va n (rows x.stored.first x.stored.count) d.t d.is in
             record {
               t = d.t;
-              used = k;
-              used_entries = l;
-              is = d.is ∙ ap (λ (x : ℕ). done (Some (rows x c), d.t)) z;
+              used = x.used.buckets;
+              used_entries = x.used.entries;
+              is = d.is ∙ ap (λ (y : ℕ). done (Some (rows y x.stored.count), d.t)) z;
               holds = d.holds;
             };
       }
 
-  pub chains-refused : {x : Refusal} → r ≡ B.Refused x → ReadsChains sec va n (Err x) b₀ b e₀ e p₀ p
+  pub chains-refused : {x : Refusal} → r ≡ Err x → ReadsChains sec va n (Err x) b₀ b e₀ e p₀ p
   chains-refused i = record { reads = λ room h. buckets_as m i h }
 
 -- ---- bones with names

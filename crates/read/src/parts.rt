@@ -6,9 +6,10 @@ ghost use Rattle.format.specs.Tables.{inverse_table, parents_table};
 ghost use Rattle.read_lists.specs.Lists.{matrix_table, index_table};
 ghost use Rattle.read.specs.Parts.{ReadsChains, ReadsBonesIn, ReadsListIn, ReadsRows, ReadsPair, KeepsPart};
 
+use blocks::places::Section;
 use format::Refusal;
 use read_bones::{Block, columns};
-use read_chains::Buckets;
+use read_chains::Used;
 use read_lists::{Indices, Listed, Matrices};
 use read_records::header::Header;
 
@@ -30,10 +31,17 @@ fn chains_in<'a>(
         buckets.old buckets.new
         entries.old entries.new pool.old pool.new }
 {
-    match read_chains::read_buckets(sys, gfx, va, n, buckets, 0, entries, 0, pool) {
-        Buckets::Absent => Ok(None),
-        Buckets::At(_, count, _, _) => Ok(Some(count as usize)),
-        Buckets::Refused(r) => Err(r),
+    let section = Section {
+        system: sys,
+        graphics: gfx,
+    };
+    let used = Used {
+        buckets: 0,
+        entries: 0,
+    };
+    match read_chains::read_buckets(section, va, n, buckets, entries, used, pool)? {
+        None => Ok(None),
+        Some(array) => Ok(Some(array.stored.count as usize)),
     }
 }
 

@@ -4,7 +4,7 @@ use Rattle.std.specs.Prelude.{Option, Some, None, Result, Ok, Err}
 use borrow.Author.Tests.{lt-leb}
 use Rattle.format.specs.Result.{Res, done, ◌>>=◌, need}
 use Rattle.format.specs.declared.Refusal.{Refusal}
-use Rattle.format.specs.declared.Refusal.TheVariants.{TableTooShort, BonesPointer}
+use Rattle.format.specs.declared.Refusal.TheVariants.{BonesPointer}
 use Rattle.format.specs.Section.{Section, Spot, cursor}
 use Rattle.format.specs.Chains.{up_from}
 use Rattle.format.specs.Tables.{block, Rows, rows, Tables, Room, find, as_kind, read_as}

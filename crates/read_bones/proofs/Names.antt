@@ -3,7 +3,6 @@ use Rattle.std.proofs.Common.{◌≡◌, ℕ, zero, suc, ◌<◌, List, length, 
 use Rattle.std.specs.Prelude.{Some, Option, None, Result, Ok, Err}
 use Rattle.format.specs.Result.{done, ◌>>=◌}
 use Rattle.format.specs.declared.Refusal.{Refusal}
-use Rattle.format.specs.declared.Refusal.TheVariants.{TableTooShort}
 use Rattle.format.specs.declared.Place.{Place}
 use Rattle.format.specs.Section as section
 use Rattle.format.specs.Section.{Section, cursor, until_zero, name_at}

@@ -3,7 +3,7 @@
 use Prim.Native.Nat.{ℕ, suc, ◌+◌, ◌-◌, ◌%◌, ◌≤◌, ◌<◌}
 use native.Mathlib.Omega.{arith}
 use mathlib.Core.Path.{◌≡◌, refl, sym, ap, subst, ◌∙◌}
-use Rattle.std.specs.Prelude.{Option, None, Some}
+use Rattle.std.specs.Prelude.{Option, None, Some, Result, Ok, Err}
 use mathlib.Core.List.{List}
 use lib.ListN.{length}
 use Rattle.format.specs.Result.{Res, refused, done, ◌>>=◌}
@@ -17,11 +17,7 @@ use Rattle.read_chains.specs.Lent.{entry_room, HoldsEntries, Comes}
 use Rattle.read_chains.specs.Entries.{no_row, meant_link, UnreadAt, LinksTo, ReadsEntry, ChainRead, ReadsChain, ReadsHead}
 use Rattle.read_chains.specs.declared.chains.Link.{Link}
 use Rattle.read_chains.specs.declared.chains.Link.TheVariants as L
-use Rattle.read_chains.specs.declared.chains.Step.{Step}
-use Rattle.read_chains.specs.declared.chains.Step.TheVariants as S
-use Rattle.read_chains.specs.declared.chains.Chain.{Chain}
-use Rattle.read_chains.specs.declared.chains.Chain.TheVariants as C
-use Rattle.read_chains.specs.declared.chains.Head.TheVariants as H
+use Rattle.read_chains.specs.declared.chains.Unread.{Unread}
 use Rattle.read_chains.proofs.Lent.{room_most, link_row}
 use Rattle.read_chains.proofs.Kept.{chain-room}
 
@@ -43,7 +39,7 @@ module _ {sec : Section} {va used at row : ℕ} {e₀ e p₀ p : List ℕ} (g : 
   -- no row is left
   pub chaining_full :
       {x : Refusal} → entry_room (length e₀) ≤ row → no_row sec at ≡ refused (number x) →
-      ReadsChain sec va used (C.Refused x) e₀ e p₀ p
+      ReadsChain sec va used (Err x) e₀ e p₀ p
   unfolding read_chain no_row
   chaining_full l n =
       record {
@@ -54,7 +50,7 @@ module _ {sec : Section} {va used at row : ℕ} {e₀ e p₀ p : List ℕ} (g : 
             c.is ∙ ap (λ (k : ℕ). read_chain sec room k at c.t) z ∙ n;
       }
 
-  module _ (l : row < entry_room (length e₀)) {s : Step} {e' p' : List ℕ} (m : ReadsEntry sec at row s e e' p p') where
+  module _ (l : row < entry_room (length e₀)) {s : Result (Option Unread) Refusal} {e' p' : List ℕ} (m : ReadsEntry sec at row s e e' p p') where
     -- the chain is the entry's turn
     turns :
         {room : Room} {t : Tables} (h : HoldsEntries room t used e₀ p₀) →
@@ -64,10 +60,10 @@ module _ {sec : Section} {va used at row : ℕ} {e₀ e p₀ p : List ℕ} (g : 
         let k : room.entries - row ≡ suc (room.entries - (row + 1)) = omega (arith, h.rows) in
         (g.rest h).is ∙ ap (λ (x : ℕ). read_chain sec room x at (g.rest h).t) k
 
-    stepped : {x : Step} → s ≡ x → ReadsEntry sec at row x e e' p p'
-    stepped i = subst (λ (x : Step). ReadsEntry sec at row x e e' p p') i m
+    stepped : {x : Result (Option Unread) Refusal} → s ≡ x → ReadsEntry sec at row x e e' p p'
+    stepped i = subst (λ (x : Result (Option Unread) Refusal). ReadsEntry sec at row x e e' p p') i m
 
-    pub chaining_end : s ≡ S.End → ReadsChain sec va used (C.Done (row + 1)) e₀ e' p₀ p'
+    pub chaining_end : s ≡ Ok None → ReadsChain sec va used (Ok (row + 1)) e₀ e' p₀ p'
     chaining_end i =
         record {
           reads =
@@ -76,12 +72,12 @@ module _ {sec : Section} {va used at row : ℕ} {e₀ e p₀ p : List ℕ} (g : 
               record { t = c.t; is = turns h ∙ c.is; holds = c.holds };
         }
 
-    pub chaining_lost : {x : Refusal} → s ≡ S.Refused x → ReadsChain sec va used (C.Refused x) e₀ e' p₀ p'
+    pub chaining_lost : {x : Refusal} → s ≡ Err x → ReadsChain sec va used (Err x) e₀ e' p₀ p'
     chaining_lost i =
         record { reads = λ {room} {t} h. turns h ∙ (stepped i).reads (g.rest h).holds (room.entries - (row + 1)) }
 
     pub chaining_next :
-        {a n : ℕ} → s ≡ S.Next a n → length e' ≡ length e → length p' ≡ length p → Chaining sec va used a (row + 1) e₀ e' p₀ p'
+        {n : Unread} → s ≡ Ok (Some n) → length e' ≡ length e → length p' ≡ length p → Chaining sec va used n.address (row + 1) e₀ e' p₀ p'
     chaining_next i j k =
         record {
           same = j ∙ g.same;
@@ -93,16 +89,16 @@ module _ {sec : Section} {va used at row : ℕ} {e₀ e p₀ p : List ℕ} (g : 
         }
 
     -- where the search for the next entry ended
-    pub next-placed : {a n : ℕ} → s ≡ S.Next a n → PlacedAt p' a n
+    pub next-placed : {n : Unread} → s ≡ Ok (Some n) → PlacedAt p' n.address n.place
     next-placed i = (stepped i).next
 
 -- ---- the head of a chain
 
 -- where the search for an unread entry ended
-pub link-placed : {p : List ℕ} {va n : ℕ} {x : Link} → LinksTo p va x → x ≡ L.Unread n → PlacedAt p va n
-link-placed {p} {va} m i = subst (λ (y : Link). UnreadAt p va y) i m.unread
+pub link-placed : {p : List ℕ} {va n : ℕ} {x : Result Link Refusal} → LinksTo p va x → x ≡ Ok (L.Unread n) → PlacedAt p va n
+link-placed {p} {va} m i = subst (λ (y : Result Link Refusal). UnreadAt p va y) i m.unread
 
-module _ (sec : Section) {va used : ℕ} {e₀ p₀ : List ℕ} {x : Link} (m : LinksTo p₀ va x) where
+module _ (sec : Section) {va used : ℕ} {e₀ p₀ : List ℕ} {x : Result Link Refusal} (m : LinksTo p₀ va x) where
   linked :
       {room : Room} {t : Tables} (h : HoldsEntries room t used e₀ p₀) (o : Res (Option ℕ)) → meant_link x ≡ o →
       read_head sec room va t ≡ (o >>= head_from sec room va t)
@@ -111,17 +107,17 @@ module _ (sec : Section) {va used : ℕ} {e₀ p₀ : List ℕ} {x : Link} (m : 
       let link : link_to va t ≡ o = sym (m.links t h.pool h.linked) ∙ e in
       rw link refl
 
-  pub head_known : {k : ℕ} → x ≡ L.To k → ReadsHead sec va used (H.At k used) e₀ e₀ p₀ p₀
+  pub head_known : {k : ℕ} → x ≡ Ok (L.To k) → ReadsHead sec va used (Ok (record { link = k; used = used })) e₀ e₀ p₀ p₀
   unfolding head_from
   head_known {k} i =
       record {
         reads = λ {room} {t} h. record { t = t; is = linked h (done (Some k)) (ap meant_link i); holds = h };
       }
 
-  pub head_other : {y : Refusal} → x ≡ L.Refused y → ReadsHead sec va used (H.Refused y) e₀ e₀ p₀ p₀
+  pub head_other : {y : Refusal} → x ≡ Err y → ReadsHead sec va used (Err y) e₀ e₀ p₀ p₀
   head_other {y} i = record { reads = λ h. linked h (refused (number y)) (ap meant_link i) }
 
-  module _ {n : ℕ} (i : x ≡ L.Unread n) {r : Chain} {e p : List ℕ} (c : ReadsChain sec va used r e₀ e p₀ p) where
+  module _ {n : ℕ} (i : x ≡ Ok (L.Unread n)) {r : Result ℕ Refusal} {e p : List ℕ} (c : ReadsChain sec va used r e₀ e p₀ p) where
     -- the chain's outcome, and what the head makes of it
     reading :
         {room : Room} {t : Tables} (h : HoldsEntries room t used e₀ p₀) (o : Res Tables) →
@@ -130,12 +126,12 @@ module _ (sec : Section) {va used : ℕ} {e₀ p₀ : List ℕ} {x : Link} (m : 
     reading {room} {t} h o f =
         linked h (done None) (ap meant_link i) ∙ rw (← h.count, f) refl
 
-    chained : {y : Chain} → r ≡ y → {room : Room} {t : Tables} → HoldsEntries room t used e₀ p₀ →
+    chained : {y : Result ℕ Refusal} → r ≡ y → {room : Room} {t : Tables} → HoldsEntries room t used e₀ p₀ →
         ChainRead room (read_chain sec room (room.entries - used) va t) e p y
     chained {y} j {room} {t} h =
-        subst (λ (z : Chain). ChainRead room (read_chain sec room (room.entries - used) va t) e p z) j (c.reads h)
+        subst (λ (z : Result ℕ Refusal). ChainRead room (read_chain sec room (room.entries - used) va t) e p z) j (c.reads h)
 
-    pub head_new : {n k : ℕ} → r ≡ C.Done n → k ≡ used % 4294967295 + 1 → ReadsHead sec va used (H.At k n) e₀ e p₀ p
+    pub head_new : {n k : ℕ} → r ≡ Ok n → k ≡ used % 4294967295 + 1 → ReadsHead sec va used (Ok (record { link = k; used = n })) e₀ e p₀ p
     head_new j f =
         record {
           reads =
@@ -152,5 +148,5 @@ module _ (sec : Section) {va used : ℕ} {e₀ p₀ : List ℕ} {x : Link} (m : 
               };
         }
 
-    pub head_lost : {y : Refusal} → r ≡ C.Refused y → ReadsHead sec va used (H.Refused y) e₀ e p₀ p
+    pub head_lost : {y : Refusal} → r ≡ Err y → ReadsHead sec va used (Err y) e₀ e p₀ p
     head_lost {y} j = record { reads = λ h. reading h (refused (number y)) (chained j h) }

@@ -1,14 +1,15 @@
 -- The laws of the lent tables: how many rows an entries table has; links that fit; tables with no rows; an entry and a bucket
 -- stored, and an array pooled. Assumes nothing.
-use Prim.Native.Nat.{ℕ, suc, ◌+◌, ◌*◌, ◌/◌, ◌%◌, ◌≤◌, ◌<◌}
+use Prim.Native.Nat.{ℕ, suc, min, ◌+◌, ◌*◌, ◌/◌, ◌%◌, ◌≤◌, ◌<◌}
 use native.Mathlib.Nat.{mod-eq_of_lt, mul-suc}
 use native.Mathlib.Omega.{arith}
 use mathlib.Core.Path.{◌≡◌, refl, sym, ap, ◌∙◌}
 use mathlib.Core.Bool.{Bool, true, false, cond}
-use Rattle.std.specs.Prelude.{Some}
+use Rattle.std.specs.Prelude.{Some, Result, Ok}
 use mathlib.Core.Logic.{⊎_elim}
 use mathlib.Core.List.{List, [], ◌∷◌, ◌++◌, flat_map}
-use borrow.Author.Tests.{lt-ltb, le-ltb, ltb-true, ltb-false}
+use borrow.Author.Tests.{ltb-true, ltb-false}
+use Rattle.std.proofs.lemmas.Grind.{common_steps}
 use lib.Dec.{ltb}
 use lib.ListN.{length, length-append, length-replicate}
 use lib.Seq.{sets, length-sets}
@@ -19,8 +20,7 @@ use Rattle.format.specs.Tables.{with_pool, add_entry, find, as_kind, same_kind}
 use Rattle.format.specs.Rows.{laid, cleared, entry_words}
 use Rattle.tables.proofs.Laid.{laid_none, sets-laid}
 use Rattle.blocks.specs.Pool.{Stores, enter}
-use Rattle.blocks.specs.declared.pool.Stored.{Stored}
-use Rattle.blocks.specs.declared.pool.Stored.TheVariants.{Done}
+use Rattle.format.specs.declared.Refusal.{Refusal}
 use Rattle.blocks.proofs.Cases.{eq-or-ne}
 use Rattle.blocks.proofs.Table.{represents_zero}
 use Rattle.blocks.proofs.Entering.{find-enter-same, find-enter-other}
@@ -29,13 +29,9 @@ use Rattle.read_chains.specs.Lent.{entry_room, LinksFit, HoldsEntries, HoldsChai
 
 -- ---- the rows of an entries table
 
-pub room-few : (n : ℕ) → n / 3 < 4294967294 → n / 3 ≡ entry_room n
+pub room-least : (n : ℕ) → min (n / 3) 4294967294 ≡ entry_room n
 unfolding entry_room
-room-few n h = rw (lt-ltb (n / 3) 4294967294 h)
-
-pub room_many : (n : ℕ) → 4294967294 ≤ n / 3 → 4294967294 ≡ entry_room n
-unfolding entry_room
-room_many n h = rw (le-ltb (n / 3) 4294967294 h)
+room-least n = grind (arith, common_steps)
 
 room_by :
     (b : Bool) (n : ℕ) → ltb (n / 3) 4294967294 ≡ b →
@@ -133,8 +129,8 @@ length-words [] = refl
 length-words (y ∷ l) = simp (length-words l, mul-suc) (omega arith)
 
 module _
-    {room : Room} {t : Tables} {va row : ℕ} {e₀ p₀ p : List ℕ} {s : Stored} (h : HoldsEntries room t row e₀ p₀)
-    (w : Stores (pooled va entry (rows row 1)) s p₀ p) (d : s ≡ Done) (fits : row < entry_room (length e₀))
+    {room : Room} {t : Tables} {va row : ℕ} {e₀ p₀ p : List ℕ} {s : Result (Unit {0}) Refusal} {v : Unit {0}} (h : HoldsEntries room t row e₀ p₀)
+    (w : Stores (pooled va entry (rows row 1)) s p₀ p) (d : s ≡ Ok v) (fits : row < entry_room (length e₀))
   where
     -- the pool names the entry's row, which will be stored
     pub linked-more : LinksFit (after w h.pool)

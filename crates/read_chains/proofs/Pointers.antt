@@ -23,10 +23,9 @@ use Rattle.tables.proofs.Laid.{sets-laid}
 use Rattle.read_chains.specs.Lent.{HoldsEntries, HoldsChains, Comes}
 use Rattle.read_chains.specs.Entries.{Headed, ReadsHead}
 use Rattle.read_chains.specs.Arrays.{ReadsBucket, ReadsPointers}
+use Rattle.std.specs.Prelude.{Result, Ok, Err}
 use Rattle.read_chains.specs.declared.chains.Head.{Head}
-use Rattle.read_chains.specs.declared.chains.Head.TheVariants as H
-use Rattle.read_chains.specs.declared.Stretch.{Stretch}
-use Rattle.read_chains.specs.declared.Stretch.TheVariants as S
+use Rattle.read_chains.specs.declared.Used.{Used}
 use Rattle.read_chains.proofs.Kept.{head_kept}
 
 -- ---- one bucket
@@ -50,24 +49,24 @@ holds-bucket {room} {t} {u} {row} {b = b} h kept o l k =
     }
 
 module _
-    (sec : Section) {va row used : ℕ} {b e₀ e p₀ p : List ℕ} {r : Head} (m : ReadsHead sec va used r e₀ e p₀ p)
+    (sec : Section) {va row used : ℕ} {b e₀ e p₀ p : List ℕ} {r : Result Head Refusal} (m : ReadsHead sec va used r e₀ e p₀ p)
   where
-    headed : {x : Head} → r ≡ x → {room : Room} {t : Tables} → HoldsChains room t row used b e₀ p₀ →
+    headed : {x : Result Head Refusal} → r ≡ x → {room : Room} {t : Tables} → HoldsChains room t row used b e₀ p₀ →
         Headed room (read_head sec room va t) e p x
-    headed {x} i {room} {t} h = subst (λ (y : Head). Headed room (read_head sec room va t) e p y) i (m.reads h.entries)
+    headed {x} i {room} {t} h = subst (λ (y : Result Head Refusal). Headed room (read_head sec room va t) e p y) i (m.reads h.entries)
 
-    pub bucket_lost : {x : Refusal} → r ≡ H.Refused x → ReadsBucket sec va row used (S.Refused x) b b e₀ e p₀ p
+    pub bucket_lost : {x : Refusal} → r ≡ Err x → ReadsBucket sec va row used (Err x) b b e₀ e p₀ p
     unfolding read_buckets
     bucket_lost i = record { reads = λ h ps. rw (headed i h) refl }
 
-    module _ {k n : ℕ} (i : r ≡ H.At k n) where
+    module _ {hd : Head} (i : r ≡ Ok hd) where
       -- the head's chain leaves the buckets as they were
       kept : {room : Room} {t : Tables} (h : HoldsChains room t row used b e₀ p₀) →
           (headed i h).t.chained.buckets ≡ t.chained.buckets
       kept {room} {t} h =
-          ap (λ (x : Tables). x.chained.buckets) (head_kept sec room va t (headed i h).t k (headed i h).is)
+          ap (λ (x : Tables). x.chained.buckets) (head_kept sec room va t (headed i h).t hd.link (headed i h).is)
 
-      pub bucket-short : length b ≤ row → ReadsBucket sec va row used (S.Refused TableTooShort) b b e₀ e p₀ p
+      pub bucket-short : length b ≤ row → ReadsBucket sec va row used (Err TableTooShort) b b e₀ e p₀ p
       unfolding read_buckets
       bucket-short l =
           record {
@@ -79,7 +78,7 @@ module _
                 rw ((headed i h).is, full) refl;
           }
 
-      pub bucket-done : row < length b → ReadsBucket sec va row used (S.Done (row + 1) n) b (set b row k) e₀ e p₀ p
+      pub bucket-done : row < length b → ReadsBucket sec va row used (Ok (record { buckets = row + 1; entries = hd.used })) b (set b row hd.link) e₀ e p₀ p
       unfolding read_buckets
       bucket-done l =
           record {
@@ -89,9 +88,9 @@ module _
                 lt-ltb (length (headed i h).t.chained.buckets) room.buckets
                 (omega (arith, h.rows, h.count, ap length (kept h))) in
                 record {
-                  t = add_bucket k (headed i h).t;
+                  t = add_bucket hd.link (headed i h).t;
                   is = rw ((headed i h).is, free) refl;
-                  holds = holds-bucket h (kept h) (headed i h).holds l k;
+                  holds = holds-bucket h (kept h) (headed i h).holds l hd.link;
                 };
           }
 
@@ -128,7 +127,7 @@ module _
     {sec : Section} {bytes : List ℕ} {filled used i row taken : ℕ} {b₀ b e₀ e p₀ p : List ℕ}
     (g : Bucketing sec bytes filled used i row taken b₀ b e₀ e p₀ p)
   where
-    pub bucketing_all : length bytes / 8 ≤ i → ReadsPointers sec bytes filled used (S.Done row taken) b₀ b e₀ e p₀ p
+    pub bucketing_all : length bytes / 8 ≤ i → ReadsPointers sec bytes filled used (Ok (record { buckets = row; entries = taken })) b₀ b e₀ e p₀ p
     unfolding read_buckets
     bucketing_all l =
         record {
@@ -145,7 +144,7 @@ module _
         }
 
     module _
-        (l : i < length bytes / 8) {va : ℕ} (f : va ≡ field_at 8 bytes (8 * i)) {r : Stretch} {b' e' p' : List ℕ}
+        (l : i < length bytes / 8) {va : ℕ} (f : va ≡ field_at 8 bytes (8 * i)) {r : Result Used Refusal} {b' e' p' : List ℕ}
         (m : ReadsBucket sec va row taken r b b' e e' p p')
       where
         next : drop i (pointers_of bytes) ≡ va ∷ drop (suc i) (pointers_of bytes)
@@ -161,19 +160,19 @@ module _
             ≡ read_buckets sec room (va ∷ drop (suc i) (pointers_of bytes)) (g.rest h).t
         turns {room} {t} h = (g.rest h).is ∙ ap (λ (x : List ℕ). read_buckets sec room x (g.rest h).t) next
 
-        bucketed : {x : Stretch} → r ≡ x → ReadsBucket sec va row taken x b b' e e' p p'
-        bucketed j = subst (λ (x : Stretch). ReadsBucket sec va row taken x b b' e e' p p') j m
+        bucketed : {x : Result Used Refusal} → r ≡ x → ReadsBucket sec va row taken x b b' e e' p p'
+        bucketed j = subst (λ (x : Result Used Refusal). ReadsBucket sec va row taken x b b' e e' p p') j m
 
         pub bucketing_lost :
-            {x : Refusal} → r ≡ S.Refused x → ReadsPointers sec bytes filled used (S.Refused x) b₀ b' e₀ e' p₀ p'
+            {x : Refusal} → r ≡ Err x → ReadsPointers sec bytes filled used (Err x) b₀ b' e₀ e' p₀ p'
         bucketing_lost j =
             record {
               reads = λ {room} {t} h. turns h ∙ (bucketed j).reads (g.rest h).holds (drop (suc i) (pointers_of bytes));
             }
 
         pub bucketing_more :
-            {x y : ℕ} → r ≡ S.Done x y → length b' ≡ length b → length e' ≡ length e → length p' ≡ length p →
-            Bucketing sec bytes filled used (i + 1) x y b₀ b' e₀ e' p₀ p'
+            {v : Used} → r ≡ Ok v → length b' ≡ length b → length e' ≡ length e → length p' ≡ length p →
+            Bucketing sec bytes filled used (i + 1) v.buckets v.entries b₀ b' e₀ e' p₀ p'
         bucketing_more j k k' k'' =
             record {
               within = omega arith;

@@ -9,15 +9,12 @@ use lib.Seq.{sets}
 use Rattle.format.specs.Result.{Res, refused, done, ◌>>=◌}
 use Rattle.format.specs.Refusal.{number, outcome}
 use Rattle.format.specs.declared.Refusal.{Refusal}
-use Rattle.format.specs.declared.Refusal.TheVariants.{TableTooShort}
 use Rattle.format.specs.Section.{Section}
 use Rattle.format.specs.Deriving.{entry_row}
 use Rattle.format.specs.Records.{entry_next}
 use Rattle.format.specs.Tables.{entry, rows, pooled, Tables, Room, with_pool, add_entry}
 use Rattle.format.specs.Read.{link_to, chain_from, read_chain}
 use Rattle.blocks.specs.Pool.{Stores}
-use Rattle.blocks.specs.declared.pool.Stored.{Stored}
-use Rattle.blocks.specs.declared.pool.Stored.TheVariants.{Done, Full}
 use Rattle.blocks.proofs.Storing.{after, put-done, tables-done, tables-full}
 use Rattle.read_chains.specs.Lent.{entry_room, HoldsEntries}
 use Rattle.read_records.specs.Entry.{entry_at}
@@ -25,7 +22,6 @@ use Rattle.read_chains.specs.Entries.{meant_link, UnreadAt, LinksTo, ReadsEntry}
 use Rattle.read_records.specs.declared.entry.Entry.{Entry}
 use Rattle.read_chains.specs.declared.chains.Link.{Link}
 use Rattle.read_chains.specs.declared.chains.Link.TheVariants as L
-use Rattle.read_chains.specs.declared.chains.Step.TheVariants as S
 use Rattle.read_chains.proofs.Lent.{room_most, link_row, linked-more, holds-entry}
 use Rattle.read_records.proofs.Entries.{Held, entry-held, entry_lost}
 
@@ -34,14 +30,14 @@ holding {sec} {va} {y} {f} fs a = entry-held sec va f (sym (ap outcome a) ∙ fs
 
 module _ (sec : Section) (va row : ℕ) {e₀ p₀ : List ℕ} {y : Result Entry Refusal} (fs : outcome y ≡ entry_at sec va) where
   -- its bytes do not stand
-  pub step_lost : {x : Refusal} → y ≡ Err x → ReadsEntry sec va row (S.Refused x) e₀ e₀ p₀ p₀
+  pub step_lost : {x : Refusal} → y ≡ Err x → ReadsEntry sec va row (Err x) e₀ e₀ p₀ p₀
   unfolding read_chain
   step_lost {x} a =
       record { next = tt; reads = λ h left. rw (entry_lost sec va (number x) (sym (ap outcome a) ∙ fs)) refl }
 
-  module _ {f : Entry} (a : y ≡ Ok f) {s : Stored} {p : List ℕ} (w : Stores (pooled va entry (rows row 1)) s p₀ p) where
+  module _ {f : Entry} (a : y ≡ Ok f) {s : Result (Unit {0}) Refusal} {p : List ℕ} (w : Stores (pooled va entry (rows row 1)) s p₀ p) where
     -- the pool is full
-    pub step_full : s ≡ Full → ReadsEntry sec va row (S.Refused TableTooShort) e₀ e₀ p₀ p
+    pub step_full : {z : Refusal} → s ≡ Err z → ReadsEntry sec va row (Err z) e₀ e₀ p₀ p
     unfolding read_chain
     step_full d =
         record {
@@ -52,7 +48,7 @@ module _ (sec : Section) (va row : ℕ) {e₀ p₀ : List ℕ} {y : Result Entry
         }
 
     module _
-        (d : s ≡ Done) (fits : row < entry_room (length e₀)) {l : Link} (m : LinksTo p f.next l)
+        {v : Unit {0}} (d : s ≡ Ok v) (fits : row < entry_room (length e₀)) {l : Result Link Refusal} (m : LinksTo p f.next l)
       where
         -- the tables once the entry is pooled
         abbrev with : {room : Room} {t : Tables} → HoldsEntries room t row e₀ p₀ → Tables
@@ -71,13 +67,13 @@ module _ (sec : Section) (va row : ℕ) {e₀ p₀ : List ℕ} {y : Result Entry
             rw ((holding fs a).is, ← h.count, tables-done room t va entry (rows row 1) w h.pool d, link) refl
 
         -- its link leads to another kind
-        pub step_other : {x : Refusal} → l ≡ L.Refused x → ReadsEntry sec va row (S.Refused x) e₀ e₀ p₀ p
+        pub step_other : {x : Refusal} → l ≡ Err x → ReadsEntry sec va row (Err x) e₀ e₀ p₀ p
         step_other {x} e = record { next = tt; reads = λ h left. turn h left (refused (number x)) (ap meant_link e) }
 
         -- the chain ends, or joins one already read
         pub step_end :
-            {k : ℕ} {e : List ℕ} → l ≡ L.To k → e ≡ sets e₀ (3 * row) (f.tag ∷ f.position ∷ k ∷ []) →
-            ReadsEntry sec va row S.End e₀ e p₀ p
+            {k : ℕ} {e : List ℕ} → l ≡ Ok (L.To k) → e ≡ sets e₀ (3 * row) (f.tag ∷ f.position ∷ k ∷ []) →
+            ReadsEntry sec va row (Ok None) e₀ e p₀ p
         step_end {k} i is =
             record {
               next = tt;
@@ -94,13 +90,13 @@ module _ (sec : Section) (va row : ℕ) {e₀ p₀ : List ℕ} {y : Result Entry
 
         -- the next entry is yet to be read: it will stand in the next row
         pub step_next :
-            {n k : ℕ} {e : List ℕ} → l ≡ L.Unread n → k ≡ (row + 1) % 4294967295 + 1 →
-            e ≡ sets e₀ (3 * row) (f.tag ∷ f.position ∷ k ∷ []) → ReadsEntry sec va row (S.Next f.next n) e₀ e p₀ p
+            {n k : ℕ} {e : List ℕ} → l ≡ Ok (L.Unread n) → k ≡ (row + 1) % 4294967295 + 1 →
+            e ≡ sets e₀ (3 * row) (f.tag ∷ f.position ∷ k ∷ []) → ReadsEntry sec va row (Ok (Some (record { address = f.next; place = n }))) e₀ e p₀ p
         step_next {n} {k} i j is =
             let low : row + 1 < 4294967295 = omega (arith, room_most (length e₀)) in
             let next : suc (suc row) ≡ k = omega (arith, link_row (row + 1) j low) in
             record {
-              next = subst (λ (x : Link). UnreadAt p f.next x) i m.unread;
+              next = subst (λ (x : Result Link Refusal). UnreadAt p f.next x) i m.unread;
               reads =
                   λ {room} {t} h left.
                   record {

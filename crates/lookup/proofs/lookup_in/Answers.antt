@@ -26,4 +26,4 @@ pub returns : goal.returns
 returns c =
     let e = rw c.from.ensures at c.in_ok-pointers.ensures.answer in
     let l = rw c.from.ensures at c.in_ok-pointers.ensures.size in
-    rw (c.follow.ensures, c.u64_at-first.ensures.answer, c.from-2.ensures) (bucket _ _ _ _ _ _ c.if-va-eq0.false c.if-c-eq0.false e l)
+    rw (c.follow.ensures, c.read-first.ensures.answer, c.from-2.ensures) (bucket _ _ _ _ _ _ c.if-va-eq0.false c.if-c-eq0.false e l)

@@ -1,5 +1,5 @@
 -- `read::fill` meets its contract: a header, then the parts, then the row of the pool. Assumes nothing.
-use mathlib.Core.Path.{◌≡◌, refl, ◌∙◌}
+use mathlib.Core.Path.{◌∙◌}
 use Rattle.std.proofs.lemmas.Result.{err_from_is_err_and}
 use Rattle.read.proofs.Filling.{fill_no_header, fill-no_rows, fill_no_matrices, fill_no_indices, fill-full, fill_done}
 use Rattle.read.proofs.fill.Goals as goal

@@ -1,22 +1,25 @@
 -- `read_chains::read_new` meets its contract: the bytes, the buckets, then the row of the pool. Assumes nothing.
+use Rattle.std.proofs.lemmas.Result.{err_from_is_err_and}
 use Rattle.read_chains.proofs.Arrays.{new_lost, new-refused, new-full, new-done}
 use Rattle.read_chains.proofs.read_new.Goals as goal
 
-pub returns-in-Refused : goal.returns-in-Refused
-returns-in-Refused c =
-    new_lost _ _ _ _ _ c.array_at-a.ensures c.in-Refused.is
+pub returns-in_err-bytes : goal.returns-in_err-bytes
+returns-in_err-bytes c =
+    let p = err_from_is_err_and c.from_residual.result c.from_residual.ensures.1 in
+    rw (p.1, p.2) (new_lost _ _ _ _ _ c.in_err-bytes.ensures.answer)
 
-pub returns-in-Refused-s : goal.returns-in-Refused-s
-returns-in-Refused-s c =
-    new-refused _ _ _ _ _ c.array_at-a.ensures c.in_default.is c.slice-bytes.ensures.answer c.read_pointers-s.ensures
-    c.in-Refused-s.is
+pub returns-in_err-now : goal.returns-in_err-now
+returns-in_err-now c =
+    let p = err_from_is_err_and c.from_residual-in_err-now.result c.from_residual-in_err-now.ensures.1 in
+    rw (p.1, p.2) (new-refused _ _ _ _ _ c.in_ok-bytes.ensures.answer c.in_ok-bytes.ensures.size c.read_pointers.ensures c.in_err-now.was)
 
-pub returns-in-Full : goal.returns-in-Full
-returns-in-Full c =
-    new-full _ _ _ _ _ c.array_at-a.ensures c.in_default.is c.slice-bytes.ensures.answer c.read_pointers-s.ensures
-    c.in-Done.is c.put-s.ensures.table c.in-Full.is
+pub returns-in_err-put : goal.returns-in_err-put
+returns-in_err-put c =
+    let p = err_from_is_err_and c.from_residual-in_err-put.result c.from_residual-in_err-put.ensures.1 in
+    rw (p.1, p.2) (new-full _ _ _ _ _ c.in_ok-bytes.ensures.answer c.in_ok-bytes.ensures.size c.read_pointers.ensures c.in_ok-now.was
+    c.put.ensures.table c.in_err-put.was)
 
-pub returns-in-Done-s : goal.returns-in-Done-s
-returns-in-Done-s c =
-    new-done _ _ _ _ _ c.array_at-a.ensures c.in_default.is c.slice-bytes.ensures.answer c.read_pointers-s.ensures
-    c.in-Done.is c.put-s.ensures.table c.in-Done-s.is
+pub returns : goal.returns
+returns c =
+    new-done _ _ _ _ _ c.in_ok-bytes.ensures.answer c.in_ok-bytes.ensures.size c.read_pointers.ensures c.in_ok-now.was
+    c.put.ensures.table c.in_ok-put.was

@@ -1,9 +1,7 @@
 -- `read_chains::chains::rows` meets its contract: the lesser of the rows and the most that are used. Assumes nothing.
-use Rattle.read_chains.proofs.Lent.{room-few, room_many}
+use mathlib.Core.Path.{◌∙◌}
+use Rattle.read_chains.proofs.Lent.{room-least}
 use Rattle.read_chains.proofs.chains.rows.Goals as goal
 
-pub returns-then-words-lt-MOST_ENTRIES : goal.returns-then-words-lt-MOST_ENTRIES
-returns-then-words-lt-MOST_ENTRIES c = room-few _ c.if-words-lt-MOST_ENTRIES.true
-
 pub returns : goal.returns
-returns c = room_many _ c.if-words-lt-MOST_ENTRIES.false
+returns c = c.min.ensures ∙ room-least _

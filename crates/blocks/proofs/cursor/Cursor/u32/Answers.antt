@@ -7,4 +7,4 @@ use Rattle.blocks.proofs.cursor.Cursor.u32.Goals as goal
 
 pub returns-clause-answer : goal.returns-clause-answer
 returns-clause-answer c =
-    c.u32_at.ensures.answer ∙ ap (λ b. field_at 4 b 0) c.take.ensures.bytes ∙ field_whole 4 _ _ (omega arith)
+    c.read.ensures.answer ∙ ap (λ b. field_at 4 b 0) c.take.ensures.bytes ∙ field_whole 4 _ _ (omega arith)

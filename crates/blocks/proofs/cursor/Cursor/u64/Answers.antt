@@ -7,4 +7,4 @@ use Rattle.blocks.proofs.cursor.Cursor.u64.Goals as goal
 
 pub returns-clause-answer : goal.returns-clause-answer
 returns-clause-answer c =
-    c.u64_at.ensures.answer ∙ ap (λ b. field_at 8 b 0) c.take.ensures.bytes ∙ field_whole 8 _ _ (omega arith)
+    c.read.ensures.answer ∙ ap (λ b. field_at 8 b 0) c.take.ensures.bytes ∙ field_whole 8 _ _ (omega arith)
