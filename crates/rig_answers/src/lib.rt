@@ -47,7 +47,7 @@ pub fn looked_position(r: Result<Option<u32>, Refusal>) -> usize
 {
     match r {
         Ok(Some(position)) => position as usize,
-        _ => 0,
+        Ok(None) | Err(_) => 0,
     }
 }
 
