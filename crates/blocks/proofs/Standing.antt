@@ -16,7 +16,7 @@ use Rattle.format.specs.declared.Refusal.TheVariants.{BadAddress, PastTheEnd}
 use Rattle.format.specs.Section.{Section, Spot, window, spot, cursor, part, or_none}
 use Rattle.blocks.specs.declared.places.Located.{Located}
 use Rattle.blocks.specs.declared.places.Located.TheVariants.{System, Graphics, Refused}
-use Rattle.blocks.specs.Places.{spot_in, standing, spot_of, bytes_of, Locates}
+use Rattle.blocks.specs.Places.{spot_in, standing, spot_of, bytes_of, Locates, rest}
 
 -- ---- where an address leads
 
@@ -152,3 +152,22 @@ module _ {s : Section} {va n : ℕ} {r : Located} (l : Locates s va n r) where
 
   pub slice-refused : {x : Refusal} → r ≡ Refused x → [] ≡ or_none (part s va n)
   slice-refused e = rw (refused-part l e) refl
+
+-- ---- the bytes of a half from a legal cursor on
+
+-- a cursor is legal where they are given, and else refused the same
+pub rest-legal : (s : Section) (va : ℕ) (b : List ℕ) → done b ≡ rest s va → (p : Spot) × (cursor s va ≡ done p)
+unfolding rest
+rest-legal s va b e = by (cursor s va) refl e
+  where
+    by : (r : Res Spot) → cursor s va ≡ r → done b ≡ (r >>= λ p. done (drop p.offset p.half)) → (p : Spot) × (cursor s va ≡ done p)
+    by (refused c) i d = let z : ◌≡◌ {A = ℕ} 0 1 = cc in absurd (omega arith)
+    by (done p) i d = (p, i)
+
+pub rest-refused : (s : Section) (va c : ℕ) → refused c ≡ rest s va → cursor s va ≡ refused c
+unfolding rest
+rest-refused s va c e = by (cursor s va) e
+  where
+    by : (r : Res Spot) → refused c ≡ (r >>= λ p. done (drop p.offset p.half)) → r ≡ refused c
+    by (refused d) i = let k : c ≡ d = cc in ap refused (sym k)
+    by (done p) i = let z : ◌≡◌ {A = ℕ} 0 1 = cc in absurd (omega arith)

@@ -22,7 +22,6 @@ use Rattle.read_bones.specs.Lent.{leaving}
 use Rattle.read_bones.specs.Blocks.{block_step, BlockStands, BlockTable, ReadsBlock}
 use Rattle.read_bones.specs.Columns.{KeepsColumns}
 use Rattle.read_bones.specs.declared.Block.{Block}
-use Rattle.read_bones.specs.declared.Block.TheVariants as K
 use Rattle.blocks.specs.Hashed.{Represents}
 use Rattle.read_lists.specs.Lists.{ListsStand}
 use Rattle.read_lists.specs.Reads as lists
@@ -67,8 +66,8 @@ module _ {sec : Section} {va n : ℕ} {r : Result (Option Buckets) Refusal} {b�
 
 -- ---- bones with names
 
-module _ {sec : Section} {pointer n : ℕ} {r : Block} {b₀ b p₀ p : List ℕ} (m : ReadsBlock sec pointer n 0 r b₀ b p₀ p) where
-  pub bones_absent : r ≡ K.Absent → ReadsBonesIn sec pointer n (Ok None) b₀ b p₀ p
+module _ {sec : Section} {pointer n : ℕ} {r : Result (Option Block) Refusal} {b₀ b p₀ p : List ℕ} (m : ReadsBlock sec pointer n 0 r b₀ b p₀ p) where
+  pub bones_absent : r ≡ Ok None → ReadsBonesIn sec pointer n (Ok None) b₀ b p₀ p
   bones_absent i =
       record {
         reads =
@@ -78,39 +77,41 @@ module _ {sec : Section} {pointer n : ℕ} {r : Block} {b₀ b p₀ p : List ℕ
             record {
               bones = d.bones;
               pool = d.pool;
-              is = d.answer ∙ ap (λ (y : Block). block_step y u) i;
-              lent = subst (λ (y : Block). BlockTable y room t (pointer - 16) n d.bones d.pool b p) i d.table;
+              is = d.answer ∙ ap (λ (y : Result (Option Block) Refusal). block_step y u) i;
+              lent = subst (λ (y : Result (Option Block) Refusal). BlockTable y room t (pointer - 16) n d.bones d.pool b p) i d.table;
               fits = tt;
             };
       }
 
-  pub bones_at_lem : {f c k : ℕ} → r ≡ K.At f c k → ReadsBonesIn sec pointer n (Ok (Some c)) b₀ b p₀ p
-  bones_at_lem {f} {c} {k} i =
+  pub bones_at_lem : {x : Block} → r ≡ Ok (Some x) → ReadsBonesIn sec pointer n (Ok (Some x.stored.count)) b₀ b p₀ p
+  bones_at_lem {x} i =
+      let f = x.stored.first in
+      let c = x.stored.count in
       record {
         reads =
             λ room t h o no.
             let d = m.reads room t h o in
             let u = leaving t d.bones (up_from 0 (length d.bones)) d.pool in
-            let s : BlockStands room t (pointer - 16) n f c k d.bones d.pool b p =
-            subst (λ (y : Block). BlockTable y room t (pointer - 16) n d.bones d.pool b p) i d.table in
+            let s : BlockStands room t (pointer - 16) n f c x.used d.bones d.pool b p =
+            subst (λ (y : Result (Option Block) Refusal). BlockTable y room t (pointer - 16) n d.bones d.pool b p) i d.table in
             let w = s.new (λ x e q. no.each (pointer - 16) x e q) in
             let z : f ≡ 0 = w.own ∙ sym h.count in
             record {
               bones = d.bones;
               pool = d.pool;
-              is = d.answer ∙ ap (λ (y : Block). block_step y u) i ∙ ap (λ (x : ℕ). done (Some (rows x c), u)) z;
+              is = d.answer ∙ ap (λ (y : Result (Option Block) Refusal). block_step y u) i ∙ ap (λ (x : ℕ). done (Some (rows x c), u)) z;
               lent = s.lent;
               fits = omega (arith, w.all, w.more, s.count);
             };
       }
 
-  pub bones-refused : {x : Refusal} → r ≡ K.Refused x → ReadsBonesIn sec pointer n (Err x) b₀ b p₀ p
+  pub bones-refused : {x : Refusal} → r ≡ Err x → ReadsBonesIn sec pointer n (Err x) b₀ b p₀ p
   bones-refused i =
       record {
         reads =
             λ room t h o no.
             let d = m.reads room t h o in
-            d.answer ∙ ap (λ (y : Block). block_step y (leaving t d.bones (up_from 0 (length d.bones)) d.pool)) i;
+            d.answer ∙ ap (λ (y : Result (Option Block) Refusal). block_step y (leaving t d.bones (up_from 0 (length d.bones)) d.pool)) i;
       }
 
 -- ---- lists

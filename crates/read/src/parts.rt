@@ -8,7 +8,7 @@ ghost use Rattle.read.specs.Parts.{ReadsChains, ReadsBonesIn, ReadsListIn, Reads
 
 use blocks::places::Section;
 use format::Refusal;
-use read_bones::{Block, columns};
+use read_bones::columns;
 use read_chains::Used;
 use read_lists::{Indices, Listed, Matrices};
 use read_records::header::Header;
@@ -57,10 +57,13 @@ fn bones_in(
     ensures { ReadsBonesIn (section sys.now gfx.now) pointer n result
         bones.old bones.new pool.old pool.new }
 {
-    match read_bones::read_block(sys, gfx, pointer, n as usize, bones, 0, pool) {
-        Block::Absent => Ok(None),
-        Block::At(_, count, _) => Ok(Some(count as usize)),
-        Block::Refused(r) => Err(r),
+    let section = Section {
+        system: sys,
+        graphics: gfx,
+    };
+    match read_bones::read_block(section, pointer, n as usize, bones, 0, pool)? {
+        None => Ok(None),
+        Some(block) => Ok(Some(block.stored.count as usize)),
     }
 }
 

@@ -1,42 +1,27 @@
--- The ways out of `header_at`, `new_block` and `read_block`. Assumes nothing.
-use Rattle.std.proofs.Common.{◌≡◌, ℕ, zero, suc, ◌+◌, ◌-◌, ◌<◌, ◌≤◌, leb, List, [], ◌++◌, length, sym, refl, ap, ◌∙◌, subst, zero-add, arith, le-leb}
+-- The ways out of `new_block` and `read_block`. Assumes nothing.
+use Rattle.std.proofs.Common.{◌≡◌, ℕ, zero, suc, ◌+◌, ◌-◌, ◌<◌, ◌≤◌, leb, List, ◌++◌, length, sym, refl, ap, ◌∙◌, subst, zero-add, arith, le-leb}
 use Rattle.std.specs.Prelude.{Option, Some, None, Result, Ok, Err}
 use borrow.Author.Tests.{lt-leb}
-use Rattle.format.specs.Result.{Res, done, ◌>>=◌, need}
+use Rattle.format.specs.Refusal.{number}
+use Rattle.format.specs.Result.{Res, refused, done, ◌>>=◌, need}
 use Rattle.format.specs.declared.Refusal.{Refusal}
 use Rattle.format.specs.declared.Refusal.TheVariants.{BonesPointer}
 use Rattle.format.specs.Section.{Section, Spot, cursor}
 use Rattle.format.specs.Chains.{up_from}
 use Rattle.format.specs.Tables.{block, Rows, rows, Tables, Room, find, as_kind, read_as}
 use Rattle.format.specs.Read.{Step, read_bones, block_from, read_block, read_bones_at}
-use Rattle.blocks.specs.Places.{spot_of, spot_in, Locates}
+use Rattle.blocks.specs.Places.{rest}
 use Rattle.blocks.specs.Pool.{pool_row, meant_cached, FindsAs, Stores}
-use Rattle.blocks.specs.declared.places.Located.{Located}
-use Rattle.blocks.specs.declared.places.Located.TheVariants.{Refused as not-located}
 use Rattle.blocks.specs.declared.pool.Stored.{Stored}
-use Rattle.blocks.proofs.Standing.{locates_cursor}
+use Rattle.blocks.proofs.Standing.{rest-legal, rest-refused}
 use Rattle.blocks.proofs.Storing.{after, put-done, tables-done, tables-full}
 use Rattle.read_bones.specs.Lent.{leaving, InOrder}
 use Rattle.read_bones.specs.Bones.{Before}
 use Rattle.read_bones.specs.Blocks.{stretch_step, Grown, StretchTable, StretchLeft, ReadsBones}
-use Rattle.read_bones.specs.Blocks.{header_step, LegalAt, NewBlock, ReadsBlock}
-use Rattle.read_bones.specs.declared.Stretch.{Stretch}
-use Rattle.read_bones.specs.declared.Stretch.TheVariants.{Done as bones-done, Refused as bones-refused}
-use Rattle.read_bones.specs.declared.Header.{Header}
-use Rattle.read_bones.specs.declared.Header.TheVariants.{Stands, Refused as header_refused}
+use Rattle.read_bones.specs.Blocks.{named, NewBlock, ReadsBlock}
 use Rattle.read_bones.specs.declared.Block.{Block}
-use Rattle.read_bones.specs.declared.Block.TheVariants.{Absent, At, Refused}
 use Rattle.read_bones.proofs.Pools.{found_again}
 use Rattle.read_bones.proofs.Stretches.{up_from-append, length-up_from}
-
--- ---- `header_at`
-
-module _ {sec : Section} {va : ℕ} {l : Located} (h : Locates sec va 0 l) where
-  pub legal_stands : (p : Spot) → spot_of sec l ≡ done p → LegalAt sec va Stands
-  legal_stands p e = record { place = p; answer = sym (locates_cursor h) ∙ e }
-
-  pub legal_refused : {x : Refusal} → l ≡ not-located x → LegalAt sec va (header_refused x)
-  legal_refused e = record { place = spot_in [] 0; answer = sym (locates_cursor h) ∙ ap (spot_of sec) e }
 
 -- ---- `new_block`
 
@@ -54,9 +39,9 @@ block_as :
 block_as {f} {g} {ms} n k e d = rw (e, d) refl
 
 module _
-    (sec : Section) (pointer n used : ℕ) (far : 16 ≤ pointer) {h : Header} (legal : LegalAt sec (pointer - 16) h) (b₀ p₀ : List ℕ)
+    (sec : Section) (pointer n used : ℕ) (far : 16 ≤ pointer) (b₀ p₀ : List ℕ)
   where
-    pub block_no_header : {x : Refusal} → h ≡ header_refused x → NewBlock sec pointer n used (Refused x) b₀ b₀ p₀ p₀
+    pub block_no_header : {x : Refusal} → refused (number x) ≡ rest sec (pointer - 16) → NewBlock sec pointer n used (Err x) b₀ b₀ p₀ p₀
     unfolding block_from
     block_no_header e =
         record {
@@ -65,26 +50,29 @@ module _
               record {
                 bones = t.bones;
                 pool = t.pool;
-                answer = rw (legal.answer ∙ ap (λ (y : Header). header_step y legal.place) e) refl;
+                answer = rw (rest-refused sec (pointer - 16) _ e) refl;
                 table = tt;
               };
         }
 
-    module _ (e : h ≡ Stands) {r : Stretch} {b p₁ : List ℕ} (s : ReadsBones sec pointer n used r b₀ b p₀ p₁) where
-      header-found : cursor sec (pointer - 16) ≡ done legal.place
-      header-found = legal.answer ∙ ap (λ (y : Header). header_step y legal.place) e
+    module _ {bytes : List ℕ} (e : done bytes ≡ rest sec (pointer - 16)) {r : Result ℕ Refusal} {b p₁ : List ℕ} (s : ReadsBones sec pointer n used r b₀ b p₀ p₁) where
+      legal : (p : Spot) × (cursor sec (pointer - 16) ≡ done p)
+      legal = rest-legal sec (pointer - 16) bytes e
+
+      header-found : cursor sec (pointer - 16) ≡ done legal.0
+      header-found = legal.1
 
       -- the bones of the block, which follow its header
       bones_read_lem :
-          (room : Room) (t : Tables) (d : StretchLeft (read_bones sec room n pointer t) room t n r b p₁) {r' : Stretch} → r ≡ r' →
+          (room : Room) (t : Tables) (d : StretchLeft (read_bones sec room n pointer t) room t n r b p₁) {r' : Result ℕ Refusal} → r ≡ r' →
           read_bones sec room n (pointer - 16 + 16) t
           ≡ stretch_step r' (leaving t d.bones (t.members ++ up_from (length t.bones) n) d.pool)
       bones_read_lem room t d i =
           let k : pointer - 16 + 16 ≡ pointer = omega (arith, far) in
           let ms = t.members ++ up_from (length t.bones) n in
-          rw k (d.answer ∙ ap (λ (y : Stretch). stretch_step y (leaving t d.bones ms d.pool)) i)
+          rw k (d.answer ∙ ap (λ (y : Result ℕ Refusal). stretch_step y (leaving t d.bones ms d.pool)) i)
 
-      pub block-bones-refused : {x : Refusal} → r ≡ bones-refused x → NewBlock sec pointer n used (Refused x) b₀ b p₀ p₁
+      pub block-bones-refused : {x : Refusal} → r ≡ Err x → NewBlock sec pointer n used (Err x) b₀ b p₀ p₁
       unfolding block_from
       block-bones-refused i =
           record {
@@ -99,13 +87,13 @@ module _
           }
 
       module _
-          {u : ℕ} (i : r ≡ bones-done u) {x : Result (Unit {0}) Refusal} {p : List ℕ} (w : Stores (pool_row (pointer - 16) block used n) x p₁ p)
+          {u : ℕ} (i : r ≡ Ok u) {x : Result (Unit {0}) Refusal} {p : List ℕ} (w : Stores (pool_row (pointer - 16) block used n) x p₁ p)
         where
           -- the bones read, and the store as the format makes it
           grown :
               (room : Room) (t : Tables) (d : StretchLeft (read_bones sec room n pointer t) room t n r b p₁) →
               Grown room t n u d.bones d.pool b p₁
-          grown room t d = subst (λ (y : Stretch). StretchTable y room t n d.bones d.pool b p₁) i d.table
+          grown room t d = subst (λ (y : Result ℕ Refusal). StretchTable y room t n d.bones d.pool b p₁) i d.table
 
           as_stored :
               (t : Tables) → used ≡ length t.bones → InOrder t →
@@ -114,7 +102,7 @@ module _
               let k : used ≡ length t.members = e ∙ sym (ap length o ∙ length-up_from 0 (length t.bones)) in
               subst (λ (f : ℕ). Stores (pool_row (pointer - 16) block f n) x p₁ p) k w
 
-          pub block-full : {y : Refusal} → x ≡ Err y → NewBlock sec pointer n used (Refused y) b₀ b p₀ p
+          pub block-full : {y : Refusal} → x ≡ Err y → NewBlock sec pointer n used (Err y) b₀ b p₀ p
           unfolding block_from
           block-full f =
               record {
@@ -137,7 +125,7 @@ module _
                     };
               }
 
-          pub block-done : {v : Unit {0}} → x ≡ Ok v → NewBlock sec pointer n used (At used n u) b₀ b p₀ p
+          pub block-done : {v : Unit {0}} → x ≡ Ok v → NewBlock sec pointer n used (Ok (record { stored = record { first = used; count = n }; used = u })) b₀ b p₀ p
           unfolding block_from
           block-done f =
               record {
@@ -178,7 +166,7 @@ as_they_were : {a : Option Rows} (t : Tables) → InOrder t →
 as_they_were {a} t o = ap (λ (ms : List ℕ). done (a, leaving t t.bones ms t.pool)) o
 
 module _ (sec : Section) (pointer n used : ℕ) (b₀ p₀ : List ℕ) where
-  pub block_null : pointer ≡ 0 → ReadsBlock sec pointer n used Absent b₀ b₀ p₀ p₀
+  pub block_null : pointer ≡ 0 → ReadsBlock sec pointer n used (Ok None) b₀ b₀ p₀ p₀
   unfolding read_bones_at
   block_null e =
       record {
@@ -200,7 +188,7 @@ module _ (sec : Section) (pointer n used : ℕ) (b₀ p₀ : List ℕ) where
       by zero h = absurd (h refl)
       by (suc a) h = refl
 
-  pub block-below : (pointer ≡ 0 → ⊥) → pointer < 16 → ReadsBlock sec pointer n used (Refused BonesPointer) b₀ b₀ p₀ p₀
+  pub block-below : (pointer ≡ 0 → ⊥) → pointer < 16 → ReadsBlock sec pointer n used (Err BonesPointer) b₀ b₀ p₀ p₀
   block-below h l =
       record {
         reads =
@@ -213,7 +201,7 @@ module _ (sec : Section) (pointer n used : ℕ) (b₀ p₀ : List ℕ) where
     at_block : (room : Room) (t : Tables) → read_bones_at sec room pointer n t ≡ read_block sec room (pointer - 16) n t
     at_block room t = points room t (λ z. omega arith) ∙ rw (le-leb 16 pointer far) refl
 
-    pub block-nowhere : pointer ≡ 16 → ReadsBlock sec pointer n used Absent b₀ b₀ p₀ p₀
+    pub block-nowhere : pointer ≡ 16 → ReadsBlock sec pointer n used (Ok None) b₀ b₀ p₀ p₀
     unfolding read_block
     block-nowhere e =
         let z : pointer - 16 ≡ 0 = omega arith in
@@ -245,8 +233,8 @@ module _ (sec : Section) (pointer n used : ℕ) (b₀ p₀ : List ℕ) where
           (sym (m.found before.lent.held) ∙ ap meant_cached e)
 
       pub block-unread :
-          {r : Block} {b p : List ℕ} → o ≡ Ok None → NewBlock sec pointer n used r b₀ b p₀ p →
-          ReadsBlock sec pointer n used r b₀ b p₀ p
+          {r : Result Block Refusal} {b p : List ℕ} → o ≡ Ok None → NewBlock sec pointer n used r b₀ b p₀ p →
+          ReadsBlock sec pointer n used (named r) b₀ b p₀ p
       block-unread e f =
           record {
             reads =
@@ -255,9 +243,11 @@ module _ (sec : Section) (pointer n used : ℕ) (b₀ p₀ : List ℕ) where
                 record { bones = d.bones; pool = d.pool; answer = asked room t before e ∙ d.answer; table = d.table };
           }
 
-      pub block_again : {f c : ℕ} → o ≡ Ok (Some (record { first = f; count = c })) → ReadsBlock sec pointer n used (At f c used) b₀ b₀ p₀ p₀
+      pub block_again : {s : Stored} → o ≡ Ok (Some s) → ReadsBlock sec pointer n used (Ok (Some (record { stored = s; used = used }))) b₀ b₀ p₀ p₀
       unfolding block_from
-      block_again {f} {c} e =
+      block_again {s} e =
+          let f = s.first in
+          let c = s.count in
           record {
             reads =
                 λ room t before i.
@@ -278,8 +268,15 @@ module _ (sec : Section) (pointer n used : ℕ) (b₀ p₀ : List ℕ) where
                 };
           }
 
-      pub block-other : {x : Refusal} → o ≡ Err x → ReadsBlock sec pointer n used (Refused x) b₀ b₀ p₀ p₀
+      pub block-other : {x : Refusal} → o ≡ Err x → ReadsBlock sec pointer n used (Err x) b₀ b₀ p₀ p₀
       block-other e =
           record {
             reads = λ room t before i. record { bones = t.bones; pool = t.pool; answer = asked room t before e; table = tt };
           }
+
+-- an answer that is told another way
+pub block_by :
+    {sec : Section} {pointer n used : ℕ} {r x : Result (Option Block) Refusal} {b₀ b p₀ p : List ℕ} →
+    ReadsBlock sec pointer n used r b₀ b p₀ p → r ≡ x → ReadsBlock sec pointer n used x b₀ b p₀ p
+block_by {sec} {pointer} {n} {used} {b₀ = b₀} {b = b} {p₀ = p₀} {p = p} m i =
+    subst (λ (y : Result (Option Block) Refusal). ReadsBlock sec pointer n used y b₀ b p₀ p) i m

@@ -1,10 +1,9 @@
 -- The ways out of `bone_from`, `new_bone` and `read_bone` (docs/FORMAT.md, "Records"). Assumes nothing.
-use Rattle.std.proofs.Common.{◌≡◌, ℕ, suc, ◌+◌, ◌-◌, ◌/◌, ◌%◌, ◌<◌, ◌≤◌, Bool, true, false, eqb, List, [], ◌∷◌, ◌++◌, length, take, drop, sym, refl, ap, ◌∙◌, subst, arith, length-append, length-drop, length-take, le-ltb, lt-ltb, eqb-true}
+use Rattle.std.proofs.Common.{◌≡◌, ℕ, suc, ◌+◌, ◌/◌, ◌%◌, ◌<◌, ◌≤◌, Bool, true, false, eqb, List, [], ◌∷◌, ◌++◌, length, sym, refl, ap, ◌∙◌, subst, arith, length-append, length-drop, length-take, le-ltb, lt-ltb, eqb-true}
 use Rattle.std.specs.Prelude.{Some, Option, None, Result, Ok, Err}
 use Rattle.format.specs.Result.{refused, done, need}
 use Rattle.format.specs.Refusal.{number}
 use Rattle.format.specs.declared.Refusal.{Refusal}
-use Rattle.format.specs.declared.Refusal.TheVariants.{TableTooShort}
 use Rattle.format.specs.declared.Place.{Place}
 use Rattle.format.specs.Field.{or_zero, field, field_at}
 use Rattle.format.specs.Section as section
@@ -18,21 +17,17 @@ use Rattle.format.proofs.Results.{gone}
 use Rattle.fields.proofs.Laws.{field_at-stands}
 use Rattle.blocks.specs.Places.{standing}
 use Rattle.blocks.specs.Pool.{pool_row, meant_cached, FindsAs, Stores}
-use Rattle.blocks.specs.declared.names.Named.{Named}
-use Rattle.blocks.specs.declared.names.Named.TheVariants.{At as named-at, Refused as name-refused}
 use Rattle.blocks.specs.declared.pool.Stored.{Stored}
 use Rattle.blocks.proofs.Standing.{bytes_at, part-standing, standing-done}
 use Rattle.blocks.proofs.Storing.{after, put-fits, put-done, tables-done, tables-full}
 use Rattle.rows.specs.Row.{has_row, put_row}
 use Rattle.rows.specs.Value.{meant_bone}
 use Rattle.rows.specs.declared.Bone.{Bone}
-use Rattle.std.specs.Prelude.{Result, Ok, Err, is_err}
 use Rattle.format.specs.Refusal.{outcome}
 use Rattle.read_bones.specs.Lent.{leaving}
 use Rattle.read_bones.specs.Bones.{bone_fields, name_step, NameTable, PoolLeft, NameLeft, ReadsName}
 use Rattle.read_bones.specs.Bones.{Before, BoneFrom, NewBone, ReadsBone}
 use Rattle.read_bones.specs.declared.bone.Row.{Row}
-use Rattle.read_bones.specs.declared.bone.Row.TheVariants.{At, Refused}
 use Rattle.read_bones.proofs.Pools.{found_again, unread_later, unread-enter}
 use Rattle.read_bones.proofs.Rows.{has_row_lt, lacks_row_le, row_added}
 
@@ -63,22 +58,20 @@ row_of-bytes b n e = rw e refl
 
 -- ---- a bone that was not read before
 
--- what the answer x of `put_bone` tells of the test q
-stored_not : (q : Bool) (x : Result (Unit {0}) Refusal) → outcome x ≡ need 1 q → is_err x ≡ true → q ≡ false
-stored_not true (Ok a) e f = absurd (cc f)
-stored_not true (Err r) e f = absurd (cc e)
-stored_not false x e f = refl
+-- what the answer of `put_bone` tells of the test q
+stored_not : (q : Bool) {n : ℕ} → refused n ≡ need 1 q → (q ≡ false) × (1 ≡ n)
+stored_not true e = let z : ◌≡◌ {A = ℕ} 0 1 = cc in absurd (omega arith)
+stored_not false e = let k : 1 ≡ _ = cc in (refl, k)
 
-pub stored_is : (q : Bool) (x : Result (Unit {0}) Refusal) → outcome x ≡ need 1 q → is_err x ≡ false → q ≡ true
-stored_is true x e f = refl
-stored_is false (Ok a) e f = absurd (cc e)
-stored_is false (Err r) e f = absurd (cc f)
+pub stored_is : (q : Bool) {u : Unit {0}} → done u ≡ need 1 q → q ≡ true
+stored_is true e = refl
+stored_is false e = let z : ◌≡◌ {A = ℕ} 0 1 = cc in absurd (omega arith)
 
 row_as : {i j : ℕ} (t : Tables) → i ≡ j → ◌≡◌ {A = Step ℕ} (done (i, t)) (done (j, t))
 row_as t e = ap (λ (k : ℕ). done (k, t)) e
 
 module _
-    (sec : Section) (bytes : List ℕ) (va used : ℕ) (b₀ : List ℕ) {p₀ : List ℕ} {nv : ℕ} {n : Named} {p₁ : List ℕ}
+    (sec : Section) (bytes : List ℕ) (va used : ℕ) (b₀ : List ℕ) {p₀ : List ℕ} {nv : ℕ} {n : Result Place Refusal} {p₁ : List ℕ}
     (e : nv ≡ field_at 8 bytes 56) (nm : ReadsName sec nv n p₀ p₁)
   where
     named :
@@ -89,7 +82,7 @@ module _
         let i : nv ≡ field 8 bytes 56 = e ∙ field_at-stands 8 bytes 56 (omega arith) in
         rw i at (nm.reads room t at h.lent.held h.unread)
 
-    pub bone-name-refused : {x : Refusal} → n ≡ name-refused x → BoneFrom sec bytes va used (Refused x) b₀ b₀ p₀ p₁
+    pub bone-name-refused : {x : Refusal} → n ≡ Err x → BoneFrom sec bytes va used (Err x) b₀ b₀ p₀ p₁
     unfolding bone_from
     bone-name-refused f =
         record {
@@ -99,50 +92,51 @@ module _
               record {
                 bones = t.bones;
                 pool = t.pool;
-                answer = rw (s, d.answer ∙ ap (λ (y : Named). name_step y (with_pool d.after t)) f) refl;
+                answer = rw (s, d.answer ∙ ap (λ (y : Result Place Refusal). name_step y (with_pool d.after t)) f) refl;
                 table = tt;
               };
         }
 
-    module _ {pl : Place} (f : n ≡ named-at pl) where
+    module _ {pl : Place} (f : n ≡ Ok pl) where
       place_found :
           (room : Room) (t : Tables) (at : ℕ) (h : Before room t at used b₀ p₀) (s : part sec va 70 ≡ done bytes) →
           read_name sec room (name_field bytes) t ≡ done (place_of pl.address pl.size, with_pool (named room t at h s).after t)
       place_found room t at h s =
           let d = named room t at h s in
-          d.answer ∙ ap (λ (y : Named). name_step y (with_pool d.after t)) f
+          d.answer ∙ ap (λ (y : Result Place Refusal). name_step y (with_pool d.after t)) f
 
       place-held :
           (room : Room) (t : Tables) (at : ℕ) (h : Before room t at used b₀ p₀) (s : part sec va 70 ≡ done bytes) →
           PoolLeft room.pool at (named room t at h s).after p₁
       place-held room t at h s =
           let d = named room t at h s in
-          subst (λ (y : Named). NameTable y room.pool at d.after p₁) f d.table
+          subst (λ (y : Result Place Refusal). NameTable y room.pool at d.after p₁) f d.table
 
       module _ (x : Result (Unit {0}) Refusal) (ex : outcome x ≡ need 1 (has_row b₀ used)) where
-        pub bone_no_room : (b : List ℕ) → is_err x ≡ true → BoneFrom sec bytes va used (Refused TableTooShort) b₀ b p₀ p₁
+        pub bone_no_room : (b : List ℕ) {y : Refusal} → x ≡ Err y → BoneFrom sec bytes va used (Err y) b₀ b p₀ p₁
         unfolding bone_from
         bone_no_room b g =
             record {
               reads =
                   λ room t at h s.
-                  let l = lacks_row_le b₀ used (stored_not (has_row b₀ used) x ex g) in
+                  let not = stored_not (has_row b₀ used) (sym (ap outcome g) ∙ ex) in
+                  let l = lacks_row_le b₀ used not.0 in
                   let k : room.bones ≤ length t.bones = omega (arith, h.count, h.lent.rows.size) in
                   record {
                     bones = t.bones;
                     pool = t.pool;
-                    answer = rw (s, place_found room t at h s, le-ltb (length t.bones) room.bones k) refl;
+                    answer = rw (s, place_found room t at h s, le-ltb (length t.bones) room.bones k) (ap refused not.1);
                     table = tt;
                   };
             }
 
-        module _ (g : is_err x ≡ false) {s : Result (Unit {0}) Refusal} {p : List ℕ} (w : Stores (pool_row va bone used 1) s p₁ p) where
+        module _ {u : Unit {0}} (g : x ≡ Ok u) {s : Result (Unit {0}) Refusal} {p : List ℕ} (w : Stores (pool_row va bone used 1) s p₁ p) where
           room-left : (room : Room) (t : Tables) (at : ℕ) → Before room t at used b₀ p₀ → length t.bones < room.bones
           room-left room t at h =
-              let l = has_row_lt b₀ used (stored_is (has_row b₀ used) x ex g) in
+              let l = has_row_lt b₀ used (stored_is (has_row b₀ used) (sym (ap outcome g) ∙ ex)) in
               omega (arith, h.count, h.lent.rows.size)
 
-          pub bone-full : (b : List ℕ) → {y : Refusal} → s ≡ Err y → BoneFrom sec bytes va used (Refused y) b₀ b p₀ p
+          pub bone-full : (b : List ℕ) → {y : Refusal} → s ≡ Err y → BoneFrom sec bytes va used (Err y) b₀ b p₀ p
           unfolding bone_from
           bone-full b i =
               record {
@@ -167,7 +161,7 @@ module _
               }
 
           module _ (y : Bone) (ey : meant_bone y ≡ bone_fields bytes pl) {b : List ℕ} (eb : b ≡ put_row b₀ used (meant_bone y)) where
-            pub bone-done : {v : Unit {0}} → s ≡ Ok v → BoneFrom sec bytes va used (At used (used + 1)) b₀ b p₀ p
+            pub bone-done : {v : Unit {0}} → s ≡ Ok v → BoneFrom sec bytes va used (Ok (record { row = used; used = used + 1 })) b₀ b p₀ p
             unfolding bone_from
             bone-done i =
                 record {
@@ -185,7 +179,7 @@ module _
                       (ey ∙ row_of-bytes bytes pl stands.0)
                       in
                       let has : has_row b₀ (length t.bones) ≡ true =
-                      ap (λ (k : ℕ). has_row b₀ k) (sym h.count) ∙ stored_is (has_row b₀ used) x ex g
+                      ap (λ (k : ℕ). has_row b₀ k) (sym h.count) ∙ stored_is (has_row b₀ used) (sym (ap outcome g) ∙ ex)
                       in
                       record {
                         bones = t.bones ++ (new ∷ []);
@@ -215,26 +209,23 @@ module _
 
 -- ---- `new_bone`
 
-module _ {sec : Section} {va used : ℕ} {r : Row} {b₀ b p₀ p : List ℕ} where
+module _ {sec : Section} {va used : ℕ} {r : Result Row Refusal} {b₀ b p₀ p : List ℕ} where
   pub new_bone_in :
-      (half : List ℕ) (o : ℕ) → part sec va 70 ≡ done (take 70 (drop o half)) →
-      BoneFrom sec (take (o + 70 - o) (drop o half)) va used r b₀ b p₀ p → NewBone sec va used r b₀ b p₀ p
-  new_bone_in half o e f =
-      let k : o + 70 - o ≡ 70 = omega arith in
-      record { reads = λ room t at h. f.reads room t at h (rw k e) }
+      {bytes : List ℕ} → done bytes ≡ part sec va 70 → BoneFrom sec bytes va used r b₀ b p₀ p → NewBone sec va used r b₀ b p₀ p
+  new_bone_in e f = record { reads = λ room t at h. f.reads room t at h (sym e) }
 
 pub new_bone_outside :
-    {sec : Section} {va : ℕ} (used : ℕ) {x : Refusal} (b p : List ℕ) → part sec va 70 ≡ refused (number x) →
-    NewBone sec va used (Refused x) b b p p
+    {sec : Section} {va : ℕ} (used : ℕ) {x : Refusal} (b p : List ℕ) → refused (number x) ≡ part sec va 70 →
+    NewBone sec va used (Err x) b b p p
 unfolding bone_from
 new_bone_outside used b p e =
-    record { reads = λ room t at h. record { bones = t.bones; pool = t.pool; answer = rw e refl; table = tt } }
+    record { reads = λ room t at h. record { bones = t.bones; pool = t.pool; answer = rw (← e) refl; table = tt } }
 
 -- ---- `read_bone`
 
 module _ {sec : Section} {va used : ℕ} (b₀ : List ℕ) {p₀ : List ℕ} {o : Result (Option Stored) Refusal} (m : FindsAs p₀ bone va o) where
   pub bone-unread :
-      {r : Row} {b p : List ℕ} → o ≡ Ok None → NewBone sec va used r b₀ b p₀ p → ReadsBone sec va used r b₀ b p₀ p
+      {r : Result Row Refusal} {b p : List ℕ} → o ≡ Ok None → NewBone sec va used r b₀ b p₀ p → ReadsBone sec va used r b₀ b p₀ p
   unfolding read_bone
   bone-unread e n =
       record {
@@ -249,9 +240,11 @@ module _ {sec : Section} {va used : ℕ} (b₀ : List ℕ) {p₀ : List ℕ} {o 
             };
       }
 
-  pub bone_again : {f c : ℕ} → o ≡ Ok (Some (record { first = f; count = c })) → ReadsBone sec va used (At f used) b₀ b₀ p₀ p₀
+  pub bone_again : {s : Stored} → o ≡ Ok (Some s) → ReadsBone sec va used (Ok (record { row = s.first; used = used })) b₀ b₀ p₀ p₀
   unfolding read_bone bone_from
-  bone_again {f} {c} e =
+  bone_again {s} e =
+      let f = s.first in
+      let c = s.count in
       record {
         reads =
             λ room t at h.
@@ -272,7 +265,7 @@ module _ {sec : Section} {va used : ℕ} (b₀ : List ℕ) {p₀ : List ℕ} {o 
             };
       }
 
-  pub bone-other : {x : Refusal} → o ≡ Err x → ReadsBone sec va used (Refused x) b₀ b₀ p₀ p₀
+  pub bone-other : {x : Refusal} → o ≡ Err x → ReadsBone sec va used (Err x) b₀ b₀ p₀ p₀
   unfolding read_bone
   bone-other e =
       record {

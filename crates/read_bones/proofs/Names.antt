@@ -10,10 +10,9 @@ use Rattle.format.specs.Tables.{string, rows, Tables, Room, find, as_kind, read_
 use Rattle.format.specs.Rows.{place_of}
 use Rattle.format.specs.Read.{name_from, read_name}
 use Rattle.format.proofs.Results.{gone}
-use Rattle.blocks.specs.Names.{meant_place, meant_name}
+use Rattle.format.specs.Refusal.{outcome_by}
+use Rattle.blocks.specs.Names.{meant_place}
 use Rattle.blocks.specs.Pool.{pool_row, meant_cached, FindsAs, Stores}
-use Rattle.blocks.specs.declared.names.Named.{Named}
-use Rattle.blocks.specs.declared.names.Named.TheVariants.{At, Refused}
 use Rattle.blocks.specs.declared.pool.Stored.{Stored}
 use Rattle.blocks.proofs.Storing.{after, put-fits, put-done, tables-done, tables-full}
 use Rattle.read_bones.specs.Bones.{NewName, ReadsName}
@@ -36,23 +35,23 @@ name-address s va p e =
 
 -- ---- a new name
 
-module _ (sec : Section) (va : ℕ) {n : Named} (m : meant_name n ≡ name_at sec va) (p₀ : List ℕ) where
-  pub new_name-refused : {x : Refusal} → n ≡ Refused x → NewName sec va (Refused x) p₀ p₀
+module _ (sec : Section) (va : ℕ) {n : Result Place Refusal} (m : outcome_by meant_place n ≡ name_at sec va) (p₀ : List ℕ) where
+  pub new_name-refused : {x : Refusal} → n ≡ Err x → NewName sec va (Err x) p₀ p₀
   unfolding name_from
   new_name-refused e =
       record {
         reads =
             λ room t at h u l.
-            record { after = t.pool; answer = rw (sym m ∙ ap meant_name e) refl; table = tt };
+            record { after = t.pool; answer = rw (sym m ∙ ap (outcome_by meant_place) e) refl; table = tt };
       }
 
   module _
-      {pl : Place} (e : n ≡ At pl) {s : Result (Unit {0}) Refusal} {p : List ℕ} (w : Stores (pool_row va string pl.address pl.size) s p₀ p)
+      {pl : Place} (e : n ≡ Ok pl) {s : Result (Unit {0}) Refusal} {p : List ℕ} (w : Stores (pool_row va string pl.address pl.size) s p₀ p)
     where
       found : name_at sec va ≡ done (meant_place pl)
-      found = sym m ∙ ap meant_name e
+      found = sym m ∙ ap (outcome_by meant_place) e
 
-      pub new_name-full : {y : Refusal} → s ≡ Err y → NewName sec va (Refused y) p₀ p
+      pub new_name-full : {y : Refusal} → s ≡ Err y → NewName sec va (Err y) p₀ p
       unfolding name_from
       new_name-full f =
           record {
@@ -65,7 +64,7 @@ module _ (sec : Section) (va : ℕ) {n : Named} (m : meant_name n ≡ name_at se
                 };
           }
 
-      pub new_name-done : {v : Unit {0}} → s ≡ Ok v → NewName sec va (At pl) p₀ p
+      pub new_name-done : {v : Unit {0}} → s ≡ Ok v → NewName sec va (Ok pl) p₀ p
       unfolding name_from
       new_name-done f =
           record {
@@ -90,7 +89,7 @@ module _ (sec : Section) (va : ℕ) {n : Named} (m : meant_name n ≡ name_at se
 
 -- ---- a name
 
-pub no_name : {sec : Section} (va : ℕ) (p : List ℕ) → va ≡ 0 → ReadsName sec va (At (record { address = 0; size = 0 })) p p
+pub no_name : {sec : Section} (va : ℕ) (p : List ℕ) → va ≡ 0 → ReadsName sec va (Ok (record { address = 0; size = 0 })) p p
 unfolding read_name place_of
 no_name va p e =
     record {
@@ -106,7 +105,7 @@ read_name_asks sec room zero t h = absurd (h refl)
 read_name_asks sec room (suc a) t h = refl
 
 module _ {sec : Section} {va : ℕ} (pos : va ≡ 0 → ⊥) {p₀ : List ℕ} {o : Result (Option Stored) Refusal} (m : FindsAs p₀ string va o) where
-  pub name-unread : {r : Named} {p : List ℕ} → o ≡ Ok None → NewName sec va r p₀ p → ReadsName sec va r p₀ p
+  pub name-unread : {r : Result Place Refusal} {p : List ℕ} → o ≡ Ok None → NewName sec va r p₀ p → ReadsName sec va r p₀ p
   name-unread e n =
       record {
         reads =
@@ -120,9 +119,11 @@ module _ {sec : Section} {va : ℕ} (pos : va ≡ 0 → ⊥) {p₀ : List ℕ} {
       }
 
   pub name_again :
-      {f c : ℕ} → o ≡ Ok (Some (record { first = f; count = c })) → ReadsName sec va (At (record { address = f; size = c })) p₀ p₀
+      {s : Stored} → o ≡ Ok (Some s) → ReadsName sec va (Ok (record { address = s.first; size = s.count })) p₀ p₀
   unfolding name_from
-  name_again {f} {c} e =
+  name_again {s} e =
+      let f = s.first in
+      let c = s.count in
       record {
         reads =
             λ room t at h u.
@@ -136,7 +137,7 @@ module _ {sec : Section} {va : ℕ} (pos : va ≡ 0 → ⊥) {p₀ : List ℕ} {
             };
       }
 
-  pub name-other : {x : Refusal} → o ≡ Err x → ReadsName sec va (Refused x) p₀ p₀
+  pub name-other : {x : Refusal} → o ≡ Err x → ReadsName sec va (Err x) p₀ p₀
   name-other e =
       record {
         reads =

@@ -12,8 +12,7 @@ use Rattle.read_bones.specs.Lent.{LentBones, leaving, Unread}
 use Rattle.read_bones.specs.Bones.{row_step, RowTable, RowLeft, BoneLeft, Before, ReadsBone}
 use Rattle.read_bones.specs.Blocks.{ReadsBones}
 use Rattle.read_bones.specs.declared.bone.Row.{Row}
-use Rattle.read_bones.specs.declared.bone.Row.TheVariants.{At, Refused}
-use Rattle.read_bones.specs.declared.Stretch.TheVariants.{Done, Refused as stretch-refused}
+use Rattle.std.specs.Prelude.{Result, Ok, Err}
 
 -- ---- rows in order
 
@@ -102,7 +101,7 @@ going_none va n used b p =
 module _
     {sec : Section} {va n used : ℕ} {b₀ p₀ : List ℕ} {at row i : ℕ} {b p : List ℕ} (g : Going sec va n used b₀ p₀ at row i b p)
   where
-    module _ (l : i < n) {r : Row} {b' p' : List ℕ} (s : ReadsBone sec at row r b b' p p') where
+    module _ (l : i < n) {r : Result Row Refusal} {b' p' : List ℕ} (s : ReadsBone sec at row r b b' p p') where
       -- the tables that the next bone finds
       abbrev reached : (room : Room) (t : Tables) → Before room t va used b₀ p₀ → Tables
       reached room t h =
@@ -115,14 +114,14 @@ module _
           let x = g.rest room t h in
           s.reads room (reached room t h) at (record { lent = x.lent; count = x.count; unread = x.unread })
 
-      pub going_refused : {x : Refusal} → r ≡ Refused x → ReadsBones sec va n used (stretch-refused x) b₀ b' p₀ p'
+      pub going_refused : {x : Refusal} → r ≡ Err x → ReadsBones sec va n used (Err x) b₀ b' p₀ p'
       going_refused e =
           record {
             reads =
                 λ room t h.
                 let d = next room t h in
                 let ms = t.members ++ up_from (length t.bones) i in
-                let f = d.answer ∙ ap (λ (y : Row). row_step y (leaving t d.bones ms d.pool)) e in
+                let f = d.answer ∙ ap (λ (y : Result Row Refusal). row_step y (leaving t d.bones ms d.pool)) e in
                 let k : n - i ≡ suc (n - (i + 1)) = omega arith in
                 record {
                   bones = t.bones;
@@ -133,9 +132,11 @@ module _
           }
 
       pub going_more :
-          {x u at' : ℕ} → r ≡ At x u → at' ≡ (at + 80) % 2 ^ 64 → length b' ≡ length b → length p' ≡ length p →
-          Going sec va n used b₀ p₀ at' u (i + 1) b' p'
-      going_more {x} {u} {at'} e ea lb lp =
+          {read : Row} {at' : ℕ} → r ≡ Ok read → at' ≡ (at + 80) % 2 ^ 64 → length b' ≡ length b → length p' ≡ length p →
+          Going sec va n used b₀ p₀ at' read.used (i + 1) b' p'
+      going_more {read} {at'} e ea lb lp =
+          let x = read.row in
+          let u = read.used in
           record {
             within = omega arith;
             same-bones = lb ∙ g.same-bones;
@@ -145,9 +146,9 @@ module _
                 let y = g.rest room t h in
                 let d = next room t h in
                 let ms = t.members ++ up_from (length t.bones) i in
-                let f = d.answer ∙ ap (λ (z : Row). row_step z (leaving t d.bones ms d.pool)) e in
+                let f = d.answer ∙ ap (λ (z : Result Row Refusal). row_step z (leaving t d.bones ms d.pool)) e in
                 let v : RowLeft room (reached room t h) at at x u d.bones d.pool b' p' =
-                subst (λ (z : Row). RowTable z room (reached room t h) at at d.bones d.pool b' p') e d.table
+                subst (λ (z : Result Row Refusal). RowTable z room (reached room t h) at at d.bones d.pool b' p') e d.table
                 in
                 let w = v.new (le_refl at) in
                 let low = w.low in
@@ -170,7 +171,7 @@ module _
                 };
           }
 
-    pub going_all : n ≤ i → ReadsBones sec va n used (Done row) b₀ b p₀ p
+    pub going_all : n ≤ i → ReadsBones sec va n used (Ok row) b₀ b p₀ p
     going_all l =
         record {
           reads =

@@ -7,7 +7,7 @@ ghost use Rattle.format.specs.Search.{has_key, first_key};
 ghost use Rattle.blocks.specs.Places.{section};
 ghost use Rattle.search.specs.First.{stored_names};
 
-use blocks::names;
+use blocks::places::Section;
 use format::Place;
 
 // Whether the name at a place hashes to a key, its stored bytes as they are. Address 0 is no name, and hashes to none.
@@ -18,7 +18,11 @@ fn has_key<'a>(sys: &'a [u8], gfx: &'a [u8], p: Place, key: u32) -> bool
     if p.address == 0 {
         return false;
     }
-    let name = names::name(sys, gfx, p);
+    let section = Section {
+        system: sys,
+        graphics: gfx,
+    };
+    let name = section.name(p);
     hash::rage_joaat(name) == key
 }
 

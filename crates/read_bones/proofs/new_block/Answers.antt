@@ -1,27 +1,26 @@
 -- `read_bones::new_block` meets its contract. Assumes nothing.
+use Rattle.std.proofs.lemmas.Result.{err_from_is_err_and}
 use Rattle.read_bones.proofs.Blocks.{block_no_header, block-bones-refused, block-full, block-done}
 use Rattle.read_bones.proofs.new_block.Goals as goal
 
-pub returns-in-Refused : goal.returns-in-Refused
-returns-in-Refused c =
-    block_no_header _ c.args.pointer c.args.n c.args.used c.requires
-    c.header_at-h.ensures _ _
-    c.in-Refused.is
+pub returns-in_err-rest : goal.returns-in_err-rest
+returns-in_err-rest c =
+    let p = err_from_is_err_and c.from_residual.result c.from_residual.ensures.1 in
+    rw (p.1, p.2) (block_no_header _ c.args.pointer c.args.n c.args.used c.requires _ _ c.in_err-rest.ensures.answer)
 
-pub returns-in-Ok : goal.returns-in-Ok
-returns-in-Ok c =
-    block-done _ c.args.pointer c.args.n c.args.used c.requires c.header_at-h.ensures _ _
-    c.in_default.is c.read_bones-s.ensures c.in-Done.is
-    c.put.ensures.table c.in-Ok.is
+pub returns-in_err-now : goal.returns-in_err-now
+returns-in_err-now c =
+    let p = err_from_is_err_and c.from_residual-in_err-now.result c.from_residual-in_err-now.ensures.1 in
+    rw (p.1, p.2) (block-bones-refused _ c.args.pointer c.args.n c.args.used c.requires _ _ c.in_ok-rest.ensures.answer c.read_bones.ensures
+    c.in_err-now.was)
 
-pub returns-in-Err : goal.returns-in-Err
-returns-in-Err c =
-    block-full _ c.args.pointer c.args.n c.args.used c.requires c.header_at-h.ensures _ _
-    c.in_default.is c.read_bones-s.ensures c.in-Done.is
-    c.put.ensures.table c.in-Err.is
+pub returns-in_err-put : goal.returns-in_err-put
+returns-in_err-put c =
+    let p = err_from_is_err_and c.from_residual-in_err-put.result c.from_residual-in_err-put.ensures.1 in
+    rw (p.1, p.2) (block-full _ c.args.pointer c.args.n c.args.used c.requires _ _ c.in_ok-rest.ensures.answer c.read_bones.ensures
+    c.in_ok-now.was c.put.ensures.table c.in_err-put.was)
 
-pub returns-in-Refused-s : goal.returns-in-Refused-s
-returns-in-Refused-s c =
-    block-bones-refused _ c.args.pointer c.args.n c.args.used c.requires
-    c.header_at-h.ensures _ _
-    c.in_default.is c.read_bones-s.ensures c.in-Refused-s.is
+pub returns : goal.returns
+returns c =
+    block-done _ c.args.pointer c.args.n c.args.used c.requires _ _ c.in_ok-rest.ensures.answer c.read_bones.ensures c.in_ok-now.was
+    c.put.ensures.table c.in_ok-put.was

@@ -1,39 +1,37 @@
 -- `read_bones::bone::bone_from` meets its contract. Assumes nothing.
-use mathlib.Core.Path.{sym, ◌∙◌}
+use mathlib.Core.Path.{sym, ap, ◌∙◌}
 use Rattle.std.proofs.Common.{arith}
+use Rattle.std.proofs.lemmas.Result.{err_from_is_err_and}
+use Rattle.format.specs.Refusal.{outcome}
 use Rattle.rows.specs.Row.{has_row}
 use Rattle.read_bones.proofs.Rows.{has_row_lt}
 use Rattle.read_bones.proofs.Bones.{stored_is, bone-name-refused, bone_no_room, bone-full, bone-done}
 use Rattle.read_bones.proofs.bone.bone_from.Goals as goal
 
-pub returns-then-is_err : goal.returns-then-is_err
-returns-then-is_err c =
-    bone_no_room _ c.args.b.now c.args.va c.args.used _
-    c.read.ensures.answer c.read_name-n.ensures
-    c.in-At.is c.put_bone.result c.put_bone.ensures.answer _ (sym c.is_err.ensures.value ∙ c.if-is_err.true)
+pub returns-in_err-name : goal.returns-in_err-name
+returns-in_err-name c =
+    let p = err_from_is_err_and c.from_residual.result c.from_residual.ensures.1 in
+    rw (p.1, p.2) (bone-name-refused _ c.args.b.now c.args.va c.args.used _ c.read.ensures.answer c.read_name.ensures c.in_err-name.was)
+
+pub returns-in_err-put_bone : goal.returns-in_err-put_bone
+returns-in_err-put_bone c =
+    let p = err_from_is_err_and c.from_residual-in_err-put_bone.result c.from_residual-in_err-put_bone.ensures.1 in
+    rw (p.1, p.2) (bone_no_room _ c.args.b.now c.args.va c.args.used _ c.read.ensures.answer c.read_name.ensures c.in_ok-name.was _
+    c.put_bone.ensures.answer _ c.in_err-put_bone.was)
 
 pub overflow_add-result : goal.overflow_add-result
 overflow_add-result c =
-    let has = stored_is (has_row c.args.bones.now c.args.used) c.put_bone.result c.put_bone.ensures.answer (sym c.is_err.ensures.value ∙ c.if-is_err.false) in
+    let has = stored_is (has_row c.args.bones.now c.args.used) (sym (ap outcome c.in_ok-put_bone.was) ∙ c.put_bone.ensures.answer) in
     omega (arith, c.well_formed, has_row_lt c.args.bones.now c.args.used has)
 
-pub returns-in-Ok : goal.returns-in-Ok
-returns-in-Ok c =
-    bone-done _ c.args.b.now c.args.va c.args.used _
-    c.read.ensures.answer c.read_name-n.ensures
-    c.in-At.is c.put_bone.result c.put_bone.ensures.answer (sym c.is_err.ensures.value ∙ c.if-is_err.false)
-    (c.put_at.ensures.table.at c.place-i.ensures.row) c.bone_in.result c.bone_in.ensures
-    c.put_bone.ensures.rows c.in-Ok.is
+pub returns-in_err-put_at : goal.returns-in_err-put_at
+returns-in_err-put_at c =
+    let p = err_from_is_err_and c.from_residual-in_err-put_at.result c.from_residual-in_err-put_at.ensures.1 in
+    rw (p.1, p.2) (bone-full _ c.args.b.now c.args.va c.args.used _ c.read.ensures.answer c.read_name.ensures c.in_ok-name.was _
+    c.put_bone.ensures.answer c.in_ok-put_bone.was (c.put_at.ensures.table.at c.place-i.ensures.row) _ c.in_err-put_at.was)
 
-pub returns-in-Err : goal.returns-in-Err
-returns-in-Err c =
-    bone-full _ c.args.b.now c.args.va c.args.used _
-    c.read.ensures.answer c.read_name-n.ensures
-    c.in-At.is c.put_bone.result c.put_bone.ensures.answer (sym c.is_err.ensures.value ∙ c.if-is_err.false)
-    (c.put_at.ensures.table.at c.place-i.ensures.row) _ c.in-Err.is
-
-pub returns-in-Refused : goal.returns-in-Refused
-returns-in-Refused c =
-    bone-name-refused _ c.args.b.now c.args.va c.args.used _
-    c.read.ensures.answer c.read_name-n.ensures
-    c.in-Refused.is
+pub returns : goal.returns
+returns c =
+    bone-done _ c.args.b.now c.args.va c.args.used _ c.read.ensures.answer c.read_name.ensures c.in_ok-name.was _
+    c.put_bone.ensures.answer c.in_ok-put_bone.was (c.put_at.ensures.table.at c.place-i.ensures.row) c.bone_in.result
+    c.bone_in.ensures c.put_bone.ensures.rows c.in_ok-put_at.was
