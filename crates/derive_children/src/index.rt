@@ -55,9 +55,7 @@ fn enter_all(parents: &[u16], t: &mut [u32])
         × (t.old ≡ cleared (length t.old)) }
     ensures rows { IndexTable parents.now t.new 0 }
 {
-    let mut i = parents.len();
-    while i > 0 {
-        i -= 1;
+    for i in (0..parents.len()).rev() {
         enter(parents, t, i);
     }
 }
@@ -83,10 +81,8 @@ fn first_children(bones: &[u32], parents: &[u16], t: &mut [u32])
         t.new }
 {
     let n = parents.len();
-    let mut b = 0;
-    while b < n {
+    for b in 0..n {
         t[n + b] = first_child(parents, t, index_at(bones, b));
-        b += 1;
     }
 }
 

@@ -58,9 +58,7 @@ pub(crate) fn push_roots(bones: &[u32], parents: &[u16], t: &mut [u32]) -> usize
 {
     let n = parents.len();
     let mut top = 0;
-    let mut r = n;
-    while r > 0 {
-        r -= 1;
+    for r in (0..n).rev() {
         let w = if_root(parents[r], t[n + r]);
         top = push(t, 2 * n, top, w);
     }
@@ -189,14 +187,12 @@ pub(crate) fn put_layers(
 {
     let mut top = start;
     let mut at = 0;
-    let mut k = 0;
-    while top > 0 {
-        if k > parents.len() {
+    for _layer in 0..parents.len() + 1 {
+        if top == 0 {
             return at;
         }
         top = layer(bones, parents, t, out, at, top);
         at += 8;
-        k += 1;
     }
     at
 }
