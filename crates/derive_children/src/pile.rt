@@ -77,6 +77,7 @@ fn put_pair(bones: &[u32], parents: &[u16], out: &mut [u16], at: usize, bone: us
 }
 
 // Takes one bone from the pile and writes its pair; from an empty pile it writes the last bone's pair again.
+#[tactic(auto, using(crate::proofs::Taking::front_known))]
 fn take_one(
     bones: &[u32],
     parents: &[u16],

@@ -10,60 +10,10 @@ returns-then-top-eq0 c =
           took_none _ _ _ _ _ _ _ c.requires.0 c.requires.1 _ c.requires.2 c.if-top-eq0.true c.put_pair.ensures.rows;
     }
 
-pub overflow_add-bone : goal.overflow_add-bone
-overflow_add-bone c =
-    let k = front_known c.requires.0 c.requires.1 c.if-top-eq0.false in
-    omega (arith, c.well_formed)
-
-pub offset_bounds-t-n : goal.offset_bounds-t-n
-offset_bounds-t-n c =
-    let k = front_known c.requires.0 c.requires.1 c.if-top-eq0.false in
-    omega (arith, c.well_formed)
-
-pub bounds-t-n : goal.bounds-t-n
-bounds-t-n c =
-    let k = front_known c.requires.0 c.requires.1 c.if-top-eq0.false in
-    omega (arith, c.well_formed)
-
-pub overflow_cast-bone : goal.overflow_cast-bone
-overflow_cast-bone c =
-    let k = front_known c.requires.0 c.requires.1 c.if-top-eq0.false in
-    omega (arith, c.well_formed)
-
-pub overflow_sub-bone-2 : goal.overflow_sub-bone-2
-overflow_sub-bone-2 c =
-    let k = front_known c.requires.0 c.requires.1 c.if-top-eq0.false in
-    omega (arith, c.well_formed)
-
-pub offset_bounds-t-bone : goal.offset_bounds-t-bone
-offset_bounds-t-bone c =
-    let k = front_known c.requires.0 c.requires.1 c.if-top-eq0.false in
-    omega (arith, c.well_formed)
-
-pub bounds-t-bone : goal.bounds-t-bone
-bounds-t-bone c =
-    let k = front_known c.requires.0 c.requires.1 c.if-top-eq0.false in
-    omega (arith, c.well_formed)
-
-pub push-left-requires : goal.push-left-requires
-push-left-requires c =
-    let k = front_known c.requires.0 c.requires.1 c.if-top-eq0.false in
-    omega (arith, c.well_formed)
-
 pub put_pair-requires-2 : goal.put_pair-requires-2
 put_pair-requires-2 c =
     let h = front-inside _ _ _ c.requires.1 c.if-top-eq0.false in
     (h.0, c.requires.3)
-
-pub overflow_add-result : goal.overflow_add-result
-overflow_add-result c =
-    let k = front_known c.requires.0 c.requires.1 c.if-top-eq0.false in
-    omega (arith, c.well_formed, c.push-left.auto.t)
-
-pub offset_bounds-t-n-2 : goal.offset_bounds-t-n-2
-offset_bounds-t-n-2 c =
-    let k = front_known c.requires.0 c.requires.1 c.if-top-eq0.false in
-    omega (arith, c.well_formed, c.push-left.auto.t)
 
 pub bounds-t-n-2 : goal.bounds-t-n-2
 bounds-t-n-2 c =
