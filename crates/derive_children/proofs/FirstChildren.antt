@@ -1,5 +1,5 @@
 -- Laws of the index of all positions, and of the table of first children made from it. Assumes nothing.
-use Prim.Native.Nat.{ℕ, zero, suc, ◌+◌, ◌-◌, ◌*◌, ◌≤◌, ◌<◌}
+use Prim.Native.Nat.{ℕ, zero, suc, ◌+◌, ◌*◌, ◌≤◌, ◌<◌}
 use native.Mathlib.Omega.{arith}
 use native.Mathlib.Nat.{le_refl}
 use mathlib.Core.Path.{◌≡◌, refl, sym, ap, ◌∙◌}
@@ -11,7 +11,7 @@ use lib.Dec.{eqb}
 use borrow.Author.Tests.{eqb-true, eqb-false}
 use Rattle.format.specs.Children.{positions, kids}
 use Rattle.derive_children.specs.Index.{first_word, rep_of, head_of, slot_of, Sought, first_at, link_at, head_at, IndexTable}
-use Rattle.derive_children.specs.Pile.{Kids, Ready}
+use Rattle.derive_children.specs.Pile.{Kids}
 use Rattle.derive_children.proofs.Positions.{after_none}
 use Rattle.derive_children.proofs.ByParent.{index_agree, looked}
 
@@ -37,12 +37,6 @@ indexed-none parents t h z =
       nexts = λ j a b. absurd (omega arith);
     }
 
-pub indexed-suc : (parents t : List ℕ) (i : ℕ) → IndexTable parents t i → 0 < i → IndexTable parents t (suc (i - 1))
-indexed-suc parents t i x h = let e : suc (i - 1) ≡ i = omega arith in rw e x
-
-pub indexed-zero : (parents t : List ℕ) (i : ℕ) → IndexTable parents t i → i ≤ 0 → IndexTable parents t 0
-indexed-zero parents t i x h = let e : 0 ≡ i = omega arith in rw e x
-
 -- ---- what `first_child` gives
 
 module _ (parents t : List ℕ) (x : IndexTable parents t 0) (v : ℕ) where
@@ -51,20 +45,6 @@ module _ (parents t : List ℕ) (x : IndexTable parents t 0) (v : ℕ) where
       → head_of (head_at parents t) r ≡ first_word (positions v 0 parents)
   first-is s r es k =
       looked parents (first_at parents t) (link_at parents t) (head_at parents t) 0 x.index v s r es k
-
-  pub first_found :
-      (s r : ℕ) → s ≡ slot_of parents v → Sought parents (link_at parents t) v (get_or t (2 * length parents + s) 0) r → 0 < r
-      → get_or t (4 * length parents + r) 0 ≡ first_word (positions v 0 parents)
-  first_found s r es k h =
-      let er : r ≡ suc (r - 1) = omega arith in
-      ap (λ (m : ℕ). get_or t (4 * length parents + m) 0) er ∙ ap (head_of (head_at parents t)) (sym er) ∙ first-is s r es k
-
-  pub first-none :
-      (s r : ℕ) → s ≡ slot_of parents v → Sought parents (link_at parents t) v (get_or t (2 * length parents + s) 0) r → r ≤ 0
-      → 0 ≡ first_word (positions v 0 parents)
-  first-none s r es k h =
-      let er : r ≡ 0 = omega arith in
-      ap (head_of (head_at parents t)) (sym er) ∙ first-is s r es k
 
 -- a store among the first children leaves the index as it is
 pub indexed-kid :
@@ -85,9 +65,6 @@ indexed-kid parents t b y h x =
 
 -- ---- the table of first children
 
-pub kids-none : (indices parents t : List ℕ) → Kids indices parents t 0
-kids-none indices parents t = record { is = λ b l. absurd (omega arith) }
-
 pub kids-more :
     (indices parents t : List ℕ) (n y : ℕ) → length parents + n < length t → y ≡ first_word (positions (get_or indices n 0) 0 parents)
     → Kids indices parents t n
@@ -102,13 +79,3 @@ kids-more indices parents t n y h e k = record { is = λ b l. go b l (eqb b n) r
         let d : b ≡ n → ⊥ = eqb-false _ _ w in
         let m : b < n = omega arith in
         get_or-set_other t (length parents + n) (length parents + b) y 0 (λ q. d (omega arith)) ∙ k.is b m
-
-pub ready :
-    (indices parents t : List ℕ) (b : ℕ) → length parents ≤ b → IndexTable parents t 0 → Kids indices parents t b → Ready indices
-    parents t
-ready indices parents t b h x k =
-    record {
-      room = x.room;
-      firsts = λ c l. k.is c (omega arith);
-      nexts = λ j l. x.nexts j (omega arith) l;
-    }

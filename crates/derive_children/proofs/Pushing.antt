@@ -9,7 +9,7 @@ use mathlib.Core.List.{List, ◌++◌, flat_map}
 use lib.ListN.{length, get_or, drop, set, length-set, length-drop, drop_of_length-le}
 use lib.Seq.{drop-cons, get_or-set_same, get_or-set_other, drop-set-add}
 use lib.Dec.{eqb}
-use borrow.Author.Tests.{eqb-true, eqb-false, le-leb, lt-leb}
+use borrow.Author.Tests.{eqb-true, eqb-false}
 use Rattle.format.specs.Bone.{negative}
 use Rattle.format.specs.Chains.{keep_if}
 use Rattle.format.specs.Children.{roots, kids, first_pending}
@@ -84,12 +84,6 @@ ready-below indices parents t t'' r l h =
     }
 
 -- ---- the pending list at first
-
-pub root_yes : (p w : ℕ) → 32768 ≤ p → w ≡ root_word p w
-root_yes p w h = rw (le-leb 32768 p h)
-
-pub root_no : (p w : ℕ) → p < 32768 → 0 ≡ root_word p w
-root_no p w h = rw (lt-leb 32768 p h)
 
 pub record Rooting (indices parents t₀ t : List ℕ) (top r : ℕ) : Type 0 where
   pub bound : r ≤ length parents

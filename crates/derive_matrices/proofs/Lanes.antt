@@ -5,7 +5,6 @@ use native.Mathlib.Omega.{arith}
 use mathlib.Core.Path.{◌≡◌, refl, sym, ap, ◌∙◌}
 use mathlib.Core.Logic.{◌≢◌}
 use mathlib.Core.List.{List, [], ◌∷◌}
-use borrow.Author.Count.{below_more}
 use lib.ListN.{length, get_or, set, length-set}
 use lib.Seq.{get_or-set_same, get_or-set_other}
 use lib.Ieee.{Float, nan}
@@ -17,7 +16,7 @@ use Rattle.derive_matrices.specs.declared.walk.Joint.{Joint}
 use Rattle.derive_matrices.specs.declared.walk.Four.{Four}
 use Rattle.derive_matrices.specs.Walking.{joint_of, own_pose, climber_pose, Climb}
 use Rattle.derive_matrices.specs.Lanes.{lanes_of, lane_of, raised, LanePut, LanesRaised, SideBySide}
-use Rattle.derive_matrices.proofs.Walking.{walk-starts, walk_up}
+use Rattle.derive_matrices.proofs.Walking.{walk_up}
 
 -- ---- a pose put into a lane
 
@@ -109,24 +108,6 @@ pub record Raising (parents s₀ s : List Float) (i : ℕ) : Type 0 where
   pub done : (k : ℕ) → k < i → lane_of s k ≡ raised (lane_of parents k) (lane_of s₀ k)
   pub rest : (k : ℕ) → i ≤ k → k < 4 → lane_of s k ≡ lane_of s₀ k
 
-pub raising_none : (parents s : List Float) → length s ≡ 28 → Raising parents s s 0
-raising_none parents s e = record { size = e; done = λ k h. absurd (omega arith); rest = λ k _ _. refl }
-
-pub raising_more :
-    (parents s₀ s s' : List Float) (i : ℕ) (v p u : Pose) → i < 4 → length s' ≡ 28 → Raising parents s₀ s i → v ≡ lane_of s i
-    → p ≡ lane_of parents i → u ≡ raised p v → LanePut i u s s' → Raising parents s₀ s' (i + 1)
-raising_more parents s₀ s s' i v p u l size h ev ep eu put =
-    record {
-      size = size;
-      done =
-          below_more _ i (λ k q. put.others k (omega arith) (λ e. absurd (omega (arith, e, q))) ∙ h.done k q)
-          (put.lane ∙ rw (eu, ep, ev, h.rest i (omega arith) l));
-      rest = λ k a b. put.others k b (λ e. absurd (omega (arith, e, a))) ∙ h.rest k (omega arith) b;
-    }
-
-pub raising_all : (parents s₀ s : List Float) (i : ℕ) → 4 ≤ i → Raising parents s₀ s i → LanesRaised parents s₀ s
-raising_all parents s₀ s i l h = λ k b. h.done k (omega arith)
-
 -- ---- the walks of four bones
 
 -- where the walk of the pose in lane i goes on from, and where it is to end
@@ -140,17 +121,6 @@ pub record FourWalks (t : List ℕ) (n steps : ℕ) (s₀ s : List Float) (p₀ 
   pub second : LaneWalk t n steps s₀ s 1 q₀ q
   pub third : LaneWalk t n steps s₀ s 2 r₀ r
   pub fourth : LaneWalk t n steps s₀ s 3 u₀ u
-
-pub four_start :
-    (t : List ℕ) (n : ℕ) (s : List Float) (p q r u : ℕ) → length s ≡ 28 → FourWalks t n 0 s s p q r u p q r u
-four_start t n s p q r u e =
-    record {
-      size = e;
-      first = record { ends = walk-starts t n p (lane_of s 0) };
-      second = record { ends = walk-starts t n q (lane_of s 1) };
-      third = record { ends = walk-starts t n r (lane_of s 2) };
-      fourth = record { ends = walk-starts t n u (lane_of s 3) };
-    }
 
 -- a step by a parent's own pose is a step of the walk
 raise_climb : (t : List ℕ) (p : ℕ) (j : Joint) (s : Pose) → j ≡ joint_of (row_at t p) → raised (own_pose j) s ≡ climb (row_at t p) s

@@ -1,14 +1,14 @@
 -- Laws of rows of sixteen words, one for each bone, stored one behind the other in a table. Assumes nothing.
-use Prim.Native.Nat.{ℕ, suc, ◌+◌, ◌-◌, ◌*◌, ◌≤◌}
+use Prim.Native.Nat.{ℕ, suc, ◌+◌, ◌*◌, ◌≤◌}
 use native.Mathlib.Omega.{arith}
 use native.Mathlib.Numerals.{add-one}
 use mathlib.Core.Path.{◌≡◌, refl, sym, ap, ◌∙◌}
 use mathlib.Core.List.{List, [], ◌∷◌, ◌++◌, flat_map, append-nil, append_assoc}
-use lib.ListN.{length, take, drop, length-append, length-drop}
+use lib.ListN.{length, drop, length-append}
 use lib.Seq.{sets, sets-eq, length-sets, take_at, drop-append-add, drop-drop}
 use Rattle.format.specs.Section.{Place}
 use Rattle.format.specs.Bone.{Bone}
-use Rattle.format.specs.Rows.{laid, cleared, bones_of}
+use Rattle.format.specs.Rows.{bones_of}
 use Rattle.rows.specs.Row.{row_at}
 use Rattle.derive_matrices.specs.Transforming.{RowsPlaced, Continues}
 use Rattle.rows.proofs.Rows.{length-bones_of, bones_of-more}
@@ -105,11 +105,3 @@ pub placed-all :
     {f : Bone Place → List ℕ} {t d₀ d : List ℕ} {p n : ℕ} → p ≡ n → RowsPlaced f t d₀ d p
     → d ≡ flat_map f (bones_of n t) ++ drop (16 * n) d₀
 placed-all e h = rw e at h.is
-
--- with zeros behind the rows
-pub laid-behind :
-    (rows d₀ d : List ℕ) {d' : List ℕ} (n : ℕ) → length rows ≡ n → n ≤ length d₀ → d ≡ rows ++ drop n d₀
-    → d' ≡ take n d ++ cleared (length d - n) → d' ≡ laid rows (length d₀)
-laid-behind rows d₀ d n er h ed e =
-    let l : length d ≡ length d₀ = ap length ed ∙ length-append rows (drop n d₀) ∙ simp length-drop (omega arith) in
-    e ∙ rw (l, ed, take_at rows (drop n d₀) n er, er)

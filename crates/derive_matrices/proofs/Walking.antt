@@ -1,16 +1,20 @@
 -- Laws of the parent walk over a table: what it reads of a row, where it stops, and what one turn of the loop does to what is
 -- left of it. Assumes nothing.
-use Prim.Native.Nat.{ℕ, zero, suc, ◌+◌, ◌-◌, ◌≤◌, ◌<◌}
+use Prim.Native.Nat.{ℕ, zero, suc, ◌+◌, ◌-◌, ◌*◌, ◌/◌, ◌≤◌, ◌<◌}
 use native.Mathlib.Omega.{arith}
 use native.Mathlib.Nat.{add-zero, sub-zero}
 use mathlib.Core.Path.{◌≡◌, refl, sym, ap, ◌∙◌}
-use mathlib.Core.Bool.{false}
+use mathlib.Core.Bool.{Bool, true, false}
 use Rattle.std.specs.Prelude.{Some}
 use mathlib.Core.List.{List}
-use lib.ListN.{length, drop}
+use lib.ListN.{length, drop, get_or}
 use lib.Seq.{get_or-drop}
-use borrow.Author.Tests.{lt-ltb, le-ltb, le-leb, lt-leb}
-use Rattle.math.specs.Vector.{add_vec3, quat_mul, quat_rotate}
+use lib.Dec.{leb}
+use borrow.Author.Tests.{lt-ltb, le-ltb, le-leb, lt-leb, leb-true}
+use Rattle.std.proofs.lemmas.Bool.{leb-false}
+use lib.Ieee.{Float}
+use Rattle.math.specs.Word.{float_of}
+use Rattle.math.specs.Vector.{vec3, vec4, add_vec3, quat_mul, quat_rotate}
 use Rattle.math.specs.declared.Vec3.{Vec3}
 use Rattle.math.specs.declared.Vec4.{Vec4}
 use Rattle.format.specs.Matrices.{Pose, within, climb, bone_at, walk}
@@ -18,14 +22,22 @@ use Rattle.format.specs.Rows.{bone_width, bone_of, bones_of}
 use Rattle.rows.specs.Row.{row_at}
 use Rattle.rows.proofs.Rows.{row_at-suc, length-bones_of}
 use Rattle.derive_matrices.specs.declared.walk.Joint.{Joint}
-use Rattle.derive_matrices.specs.declared.walk.JointWords.{JointWords}
-use Rattle.derive_matrices.specs.Walking.{joint_words, meant_joint, joint_of}
+use Rattle.derive_matrices.specs.Walking.{joint_of, Climb}
 
--- what the words of a row stand for is what the walk takes from its bone
+-- the floats of a row's words and its parent are what the walk takes from its bone
 pub joint_made :
-    (t : List ℕ) (p : ℕ) (r : JointWords) (j : Joint) → r ≡ joint_words t p → j ≡ meant_joint r → j ≡ joint_of (row_at t p)
+    (t : List ℕ) (p : ℕ) {x y z w tx ty tz : Float}
+    → x ≡ float_of (get_or t (21 * p + 0) 0) → y ≡ float_of (get_or t (21 * p + 1) 0) → z ≡ float_of (get_or t (21 * p + 2) 0)
+    → w ≡ float_of (get_or t (21 * p + 3) 0) → tx ≡ float_of (get_or t (21 * p + 4) 0)
+    → ty ≡ float_of (get_or t (21 * p + 5) 0) → tz ≡ float_of (get_or t (21 * p + 6) 0)
+    → record {
+      rotation = vec4 x y z w;
+      translation = vec3 tx ty tz;
+      parent = get_or t (21 * p + 10) 0 / 65536;
+    }
+    ≡ joint_of (row_at t p)
 unfolding bone_of
-joint_made t p r j er ej = simp (ej, er, get_or-drop, add-zero)
+joint_made t p ex ey ez ew ea eb ec = simp (ex, ey, ez, ew, ea, eb, ec, get_or-drop, add-zero)
 
 -- the bone at a position is the bone in that row
 bone_at-bones_of : (n p : ℕ) (t : List ℕ) → p < n → bone_at (bones_of n t) p ≡ Some (row_at t p)
@@ -51,6 +63,16 @@ module _ (t : List ℕ) (n p : ℕ) (s : Pose) where
 
   pub walk_outside : (k : ℕ) → p < 32768 → n ≤ p → walk (bones_of n t) k p s ≡ s
   walk_outside k g h = walk_stays k (rw (lt-leb 32768 p g, length-bones_of n t, le-ltb p n h))
+
+  pub walk-stops : (k : ℕ) → (Climb n p → ⊥) → walk (bones_of n t) k p s ≡ s
+  walk-stops k h = by (leb 32768 p) refl
+    where
+      by : (q : Bool) → leb 32768 p ≡ q → walk (bones_of n t) k p s ≡ s
+      by true e = walk-negative k (leb-true 32768 p e)
+      by false e =
+          let l : p < 32768 = omega (arith, leb-false 32768 p e) in
+          let m : n ≤ p = omega (arith, λ (g : p < n). h (l, g)) in
+          walk_outside k l m
 
   -- ---- one step
 

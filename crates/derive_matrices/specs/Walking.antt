@@ -1,13 +1,10 @@
 -- The parent walk over rows: the words it reads and what they stand for, and the walk from where a bone stands. Definitions only.
-use Rattle.std.specs.Prelude.{ℕ, ◌+◌, ◌*◌, ◌/◌, ◌%◌, ◌≤◌, ◌<◌, ◌≡◌, Bool, true, List, length, get_or, leb}
-use Rattle.math.specs.Word.{float_of}
-use Rattle.math.specs.Vector.{vec3, vec4}
+use Rattle.std.specs.Prelude.{ℕ, ◌+◌, ◌*◌, ◌%◌, ◌≤◌, ◌<◌, ◌≡◌, Bool, true, List, length, get_or, leb}
 use Rattle.format.specs.Section.{Place}
 use Rattle.format.specs.Bone.{Bone}
 use Rattle.format.specs.Matrices as format
 use Rattle.format.specs.Rows.{bone_width}
 use Rattle.derive_matrices.specs.declared.walk.Joint.{Joint}
-use Rattle.derive_matrices.specs.declared.walk.JointWords.{JointWords}
 use Rattle.derive_matrices.specs.declared.walk.Pose.{Pose}
 use Rattle.derive_matrices.specs.declared.walk.Climber.{Climber}
 
@@ -22,11 +19,6 @@ Plain w = plain_word w ≡ true
 abbrev pub PlainRow : List ℕ → ℕ → Type 0
 PlainRow t p = (i : ℕ) → i < 7 → Plain (get_or t (bone_width * p + i) 0)
 
--- none of the words read is a NaN's
-pub record PlainWords (r : JointWords) : Type 0 where
-  pub rotation : Plain r.x × Plain r.y × Plain r.z × Plain r.w
-  pub translation : Plain r.tx × Plain r.ty × Plain r.tz
-
 -- the table holds n bones; where the flag is set, no row has a NaN
 pub record Walkable (plain : Bool) (n : ℕ) (t : List ℕ) : Type 0 where
   pub holds : bone_width * n ≤ length t
@@ -36,29 +28,6 @@ pub record Walkable (plain : Bool) (n : ℕ) (t : List ℕ) : Type 0 where
 pub record InTable (plain : Bool) (n p : ℕ) (t : List ℕ) : Type 0 where
   pub below : p < n
   pub table : Walkable plain n t
-
--- the words in row p that the walk reads
-abbrev pub joint_words : List ℕ → ℕ → JointWords
-joint_words t p =
-    record {
-      x = get_or t (bone_width * p) 0;
-      y = get_or t (bone_width * p + 1) 0;
-      z = get_or t (bone_width * p + 2) 0;
-      w = get_or t (bone_width * p + 3) 0;
-      tx = get_or t (bone_width * p + 4) 0;
-      ty = get_or t (bone_width * p + 5) 0;
-      tz = get_or t (bone_width * p + 6) 0;
-      parent = get_or t (bone_width * p + 10) 0 / 65536;
-    }
-
--- what they stand for
-abbrev pub meant_joint : JointWords → Joint
-meant_joint r =
-    record {
-      rotation = vec4 (float_of r.x) (float_of r.y) (float_of r.z) (float_of r.w);
-      translation = vec3 (float_of r.tx) (float_of r.ty) (float_of r.tz);
-      parent = r.parent;
-    }
 
 -- what the walk takes from a bone
 abbrev pub joint_of : Bone Place → Joint

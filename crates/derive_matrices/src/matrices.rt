@@ -30,7 +30,9 @@ fn matrices_room(bones: usize, n: usize, inverse: usize, local: usize) -> Result
     Ok(())
 }
 
-// The inverse matrix of a bone whose walk ends there. Column 4 is four +0.
+// The inverse matrix of a bone whose walk ends there. Column 4 is four +0. (Inlined: a call for each bone was measured a tenth slower,
+// and so it is with `local_words`.)
+#[inline(always)]
 fn inverse_words(end: Pose) -> [u32; 16]
     ensures answer { result ≡ inverse_from (meant_pose end) }
 {
@@ -45,6 +47,7 @@ fn inverse_words(end: Pose) -> [u32; 16]
 }
 
 // The local matrix of the bone in row `at`, from which the walk takes `own`. Column 4 is the kept words, bit for bit.
+#[inline(always)]
 fn local_words(bones: &[u32], at: usize, own: Joint) -> [u32; 16]
     requires { own ≡ joint_of (row_at bones.now at) }
     ensures answer { result ≡ local_of (row_at bones.now at) }
@@ -75,20 +78,19 @@ fn put_matrix(t: &mut [u32], at: usize, w: [u32; 16])
 }
 
 // Stores in row p the inverse matrix of a bone whose walk stands there with so many steps done.
-fn put_inverse(
+fn put_inverse<const PLAIN: bool>(
     bones: &[u32],
     n: usize,
     p: usize,
     from: Climber,
     done: usize,
     inverse: &mut [u32],
-    plain: bool,
 )
-    requires { Walkable plain n bones.now × (16 * p + 16 ≤ length inverse.old) }
+    requires { Walkable PLAIN n bones.now × (16 * p + 16 ≤ length inverse.old) }
     ensures rows { inverse.new ≡
         sets inverse.old (16 * p) (inverse_from (walk_from (bones_of n bones.now) (n - done) from)) }
 {
-    let end = walked(bones, n, from, done, plain);
+    let end = walked::<PLAIN>(bones, n, from, done);
     put_matrix(inverse, MATRIX_WORDS * p, inverse_words(end));
 }
 
@@ -98,15 +100,15 @@ fn put_four(bones: &[u32], n: usize, p: usize, inverse: &mut [u32])
     ensures rows { Continues (inverse_of (bones_of n bones.now)) bones.now p (p + 4)
         inverse.old inverse.new }
 {
-    let a = joint_in(bones, n, p, true);
-    let b = joint_in(bones, n, p + 1, true);
-    let c = joint_in(bones, n, p + 2, true);
-    let d = joint_in(bones, n, p + 3, true);
+    let a = joint_in::<true>(bones, n, p);
+    let b = joint_in::<true>(bones, n, p + 1);
+    let c = joint_in::<true>(bones, n, p + 2);
+    let d = joint_in::<true>(bones, n, p + 3);
     let f = side_by_side(bones, n, a, b, c, d);
-    put_inverse(bones, n, p, f.a, f.steps, &mut *inverse, true);
-    put_inverse(bones, n, p + 1, f.b, f.steps, &mut *inverse, true);
-    put_inverse(bones, n, p + 2, f.c, f.steps, &mut *inverse, true);
-    put_inverse(bones, n, p + 3, f.d, f.steps, &mut *inverse, true);
+    put_inverse::<true>(bones, n, p, f.a, f.steps, inverse);
+    put_inverse::<true>(bones, n, p + 1, f.b, f.steps, inverse);
+    put_inverse::<true>(bones, n, p + 2, f.c, f.steps, inverse);
+    put_inverse::<true>(bones, n, p + 3, f.d, f.steps, inverse);
 }
 
 // Stores the inverse matrices of the first bones, four at a time, and gives their number: fewer than four are left.
@@ -116,64 +118,49 @@ fn put_fours(bones: &[u32], n: usize, inverse: &mut [u32]) -> usize
     ensures rows { Continues (inverse_of (bones_of n bones.now)) bones.now 0 result
         inverse.old inverse.new }
 {
-    let mut p = 0;
-    while 4 <= n - p {
-        put_four(bones, n, p, &mut *inverse);
-        p += 4;
+    for four in 0..n / 4 {
+        put_four(bones, n, 4 * four, inverse);
     }
-    p
+    n - n % 4
 }
 
 // Stores the inverse matrices of the bones from row `from` on, those below being stored; the words behind row n stay.
-fn put_rest(bones: &[u32], n: usize, from: usize, inverse: &mut [u32], plain: bool)
-    requires { Walkable plain n bones.now × (from ≤ n) × (16 * n ≤ length inverse.old) }
+fn put_rest<const PLAIN: bool>(bones: &[u32], n: usize, from: usize, inverse: &mut [u32])
+    requires { Walkable PLAIN n bones.now × (from ≤ n) × (16 * n ≤ length inverse.old) }
     ensures rows { Continues (inverse_of (bones_of n bones.now)) bones.now from n
         inverse.old inverse.new }
 {
-    let mut p = from;
-    while p < n {
-        let own = joint_in(bones, n, p, plain);
-        put_inverse(bones, n, p, before(own), 0, &mut *inverse, plain);
-        p += 1;
+    for p in from..n {
+        let own = joint_in::<PLAIN>(bones, n, p);
+        put_inverse::<PLAIN>(bones, n, p, before(own), 0, inverse);
     }
-}
-
-// Stores the inverse matrices of the first n bones; the words behind them stay. `plain` says that no row has a NaN.
-fn put_inverses(bones: &[u32], n: usize, inverse: &mut [u32], plain: bool)
-    requires { Walkable plain n bones.now × (16 * n ≤ length inverse.old) }
-    ensures rows { inverse.new ≡
-        inverses (bones_of n bones.now) ++ drop (16 * n) inverse.old }
-{
-    if plain {
-        let p = put_fours(bones, n, &mut *inverse);
-        put_rest(bones, n, p, &mut *inverse, true);
-        return;
-    }
-    put_rest(bones, n, 0, &mut *inverse, false);
 }
 
 // Stores the local matrices of the first n bones; the words behind them stay.
-fn put_locals(bones: &[u32], n: usize, local: &mut [u32], plain: bool)
-    requires { Walkable plain n bones.now × (16 * n ≤ length local.old) }
+fn put_locals<const PLAIN: bool>(bones: &[u32], n: usize, local: &mut [u32])
+    requires { Walkable PLAIN n bones.now × (16 * n ≤ length local.old) }
     ensures rows { local.new ≡ locals (bones_of n bones.now) ++ drop (16 * n) local.old }
 {
-    let mut p = 0;
-    while p < n {
-        let own = joint_in(bones, n, p, plain);
-        put_matrix(&mut *local, MATRIX_WORDS * p, local_words(bones, p, own));
-        p += 1;
+    for p in 0..n {
+        let own = joint_in::<PLAIN>(bones, n, p);
+        put_matrix(local, MATRIX_WORDS * p, local_words(bones, p, own));
     }
 }
 
-// Stores the matrices of the first n bones; the words behind them stay.
+// Stores the matrices of the first n bones; the words behind them stay. Where no row has a NaN, four walks go side by side.
 fn put_matrices(bones: &[u32], n: usize, inverse: &mut [u32], local: &mut [u32])
     requires { MatrixRoom n bones.now inverse.old local.old }
     ensures rows { MatricesFirst n (bones_of n bones.now)
         inverse.old inverse.new local.old local.new }
 {
-    let plain = plain_rows(bones, n);
-    put_locals(bones, n, local, plain);
-    put_inverses(bones, n, inverse, plain);
+    if plain_rows(bones, n) {
+        put_locals::<true>(bones, n, local);
+        let from = put_fours(bones, n, inverse);
+        put_rest::<true>(bones, n, from, inverse);
+    } else {
+        put_locals::<false>(bones, n, local);
+        put_rest::<false>(bones, n, 0, inverse);
+    }
 }
 
 // The inverse and the local matrices of the first n bones of a table, sixteen words each, zeros behind them. Refuses 2 above

@@ -1,27 +1,18 @@
 // The parent walk: what it takes from a bone's row, and where it ends, for one bone or for four side by side (docs/FORMAT.md,
 // "Deriving": `build_transformations`).
-ghost use Rattle.std.specs.Prelude.{◌≡◌, true, ◌+◌, ◌-◌, ◌*◌, ◌≤◌, ◌<◌, length};
+ghost use Rattle.std.specs.Prelude.{◌≡◌, true, IsTrue, EachIndex, ◌↔◌, ◌+◌, ◌-◌, ◌*◌, ◌≤◌, ◌<◌, length, get_or};
 ghost use Rattle.format.specs.Rows.{bone_width, bones_of};
 ghost use Rattle.rows.specs.Row.{row_at};
-ghost use Rattle.derive_matrices.specs.Walking.{joint_words, meant_joint, joint_of, own_pose, meant_pose, climber_pose, walk_from};
-ghost use Rattle.derive_matrices.specs.Walking.{PlainWords, PlainRow, InTable, Walkable, Climb};
+ghost use Rattle.math.specs.Word.{float_of};
+ghost use Rattle.derive_matrices.specs.Walking.{joint_of, own_pose, meant_pose, climber_pose, walk_from};
+ghost use Rattle.derive_matrices.specs.Walking.{plain_word, PlainRow, InTable, Walkable, Climb};
 ghost use Rattle.derive_matrices.specs.Lanes.{lanes_of, lane_of, raised, LanePut, LanesRaised, SideBySide};
 
-use crate::floats::{floats3, floats4, plain, plain3, plain4};
-use math::{Vec3, Vec4};
-
-// The words that the parent walk reads of a bone: a rotation, a translation and a parent.
-#[derive(Clone, Copy)]
-pub struct JointWords {
-    pub x: u32,
-    pub y: u32,
-    pub z: u32,
-    pub w: u32,
-    pub tx: u32,
-    pub ty: u32,
-    pub tz: u32,
-    pub parent: u16,
-}
+use format::{
+    BONE_WORDS, ROTATION_W, ROTATION_X, ROTATION_Y, ROTATION_Z, SIBLING_AND_PARENT, TRANSLATION_X,
+    TRANSLATION_Y, TRANSLATION_Z,
+};
+use math::{Vec3, Vec4, float_of};
 
 // What the parent walk takes from a bone.
 #[derive(Clone, Copy)]
@@ -68,18 +59,28 @@ const LANES: usize = 4;
 
 const LANE_FLOATS: usize = 28;
 
+const SIGN_BIT: u32 = 0x8000_0000;
+
+// The word of +infinity: a word above this, its sign dropped, is a NaN's.
+const INFINITY_WORD: u32 = 0x7F80_0000;
+
+// Whether a word is no NaN's.
+fn plain(w: u32) -> bool
+    ensures answer { result ≡ plain_word w }
+{
+    w % SIGN_BIT <= INFINITY_WORD
+}
+
 // Whether none of the words that the walk reads as floats from row p is a NaN's.
 fn plain_row(bones: &[u32], p: usize) -> bool
     requires { bone_width * p + bone_width ≤ length bones.now }
     ensures answer { result ≡ true → PlainRow bones.now p }
 {
-    let at = format::BONE_WORDS * p;
-    let mut i = 0;
-    while i < JOINT_FLOATS {
+    let at = BONE_WORDS * p;
+    for i in 0..JOINT_FLOATS {
         if !plain(bones[at + i]) {
             return false;
         }
-        i += 1;
     }
     true
 }
@@ -89,67 +90,47 @@ pub(crate) fn plain_rows(bones: &[u32], n: usize) -> bool
     requires { bone_width * n ≤ length bones.now }
     ensures answer { Walkable result n bones.now }
 {
-    let mut p = 0;
-    while p < n {
+    for p in 0..n {
         if !plain_row(bones, p) {
             return false;
         }
-        p += 1;
     }
     true
 }
 
-// The words in row p that the walk reads, with no test of bounds.
-fn words_in(bones: &[u32], p: usize) -> JointWords
-    requires { bone_width * p + bone_width ≤ length bones.now }
-    ensures answer { result ≡ joint_words bones.now p }
+// The float at word i of row p, one of n. `PLAIN` says here and below that no row has a NaN: its words are then taken as they stand.
+// (A struct of bones, n and this fact would keep it in a ghost field, and such a struct takes no `const` parameter of type `bool`.)
+fn float_in<const PLAIN: bool>(bones: &[u32], n: usize, p: usize, i: usize) -> f32
+    requires { InTable PLAIN n p bones.now × (i < 7) }
+    ensures answer { result ≡ float_of (get_or bones.now (bone_width * p + i) 0) }
 {
-    let at = format::BONE_WORDS * p;
-    JointWords {
-        x: bones[at],
-        y: bones[at + format::ROTATION_Y],
-        z: bones[at + format::ROTATION_Z],
-        w: bones[at + format::ROTATION_W],
-        tx: bones[at + format::TRANSLATION_X],
-        ty: bones[at + format::TRANSLATION_Y],
-        tz: bones[at + format::TRANSLATION_Z],
-        parent: (bones[at + format::SIBLING_AND_PARENT] / 65536) as u16,
+    let word = bones[BONE_WORDS * p + i];
+    if PLAIN {
+        f32::from_bits(word)
+    } else {
+        float_of(word)
     }
 }
 
-// What these words stand for, a NaN among them or not.
-fn any_joint(r: JointWords) -> Joint
-    ensures answer { result ≡ meant_joint r }
-{
-    Joint {
-        rotation: floats4(r.x, r.y, r.z, r.w),
-        translation: floats3(r.tx, r.ty, r.tz),
-        parent: r.parent,
-    }
-}
-
-// The same where none of them is a NaN's: they are taken as they stand.
-fn plain_joint(r: JointWords) -> Joint
-    requires { PlainWords r }
-    ensures answer { result ≡ meant_joint r }
-{
-    Joint {
-        rotation: plain4(r.x, r.y, r.z, r.w),
-        translation: plain3(r.tx, r.ty, r.tz),
-        parent: r.parent,
-    }
-}
-
-// What the walk takes from the bone in row p, one of n; `plain` says that no row has a NaN.
-pub(crate) fn joint_in(bones: &[u32], n: usize, p: usize, plain: bool) -> Joint
-    requires { InTable plain n p bones.now }
+// What the walk takes from the bone in row p, one of n, with no test of bounds.
+pub(crate) fn joint_in<const PLAIN: bool>(bones: &[u32], n: usize, p: usize) -> Joint
+    requires { InTable PLAIN n p bones.now }
     ensures answer { result ≡ joint_of (row_at bones.now p) }
 {
-    let w = words_in(bones, p);
-    if plain {
-        return plain_joint(w);
+    Joint {
+        rotation: Vec4 {
+            x: float_in::<PLAIN>(bones, n, p, ROTATION_X),
+            y: float_in::<PLAIN>(bones, n, p, ROTATION_Y),
+            z: float_in::<PLAIN>(bones, n, p, ROTATION_Z),
+            w: float_in::<PLAIN>(bones, n, p, ROTATION_W),
+        },
+        translation: Vec3 {
+            x: float_in::<PLAIN>(bones, n, p, TRANSLATION_X),
+            y: float_in::<PLAIN>(bones, n, p, TRANSLATION_Y),
+            z: float_in::<PLAIN>(bones, n, p, TRANSLATION_Z),
+        },
+        parent: (bones[BONE_WORDS * p + SIBLING_AND_PARENT] / 65536) as u16,
     }
-    any_joint(w)
 }
 
 // A bone before its first step.
@@ -157,30 +138,41 @@ pub(crate) fn before(own: Joint) -> Climber
     ensures answer { climber_pose result ≡ own_pose own }
     ensures parent { result.parent ≡ own.parent }
 {
-    let position = own.translation;
-    let rotation = own.rotation;
     Climber {
-        pose: Pose { position, rotation },
+        pose: Pose {
+            position: own.translation,
+            rotation: own.rotation,
+        },
         parent: own.parent,
     }
 }
 
+// Whether a walk goes on to this parent: it is the position of one of n bones.
+fn climbs(p: u16, n: usize) -> bool
+    ensures answer { IsTrue result ↔ Climb n p }
+{
+    p < NEGATIVE && usize::from(p) < n
+}
+
 // Where the walk ends of a bone that stands there with so many steps done. It climbs while the parent is the position of one of
 // the n bones and fewer than n steps are done.
-pub(crate) fn walked(bones: &[u32], n: usize, from: Climber, done: usize, plain: bool) -> Pose
-    requires { Walkable plain n bones.now }
+pub(crate) fn walked<const PLAIN: bool>(bones: &[u32], n: usize, from: Climber, done: usize) -> Pose
+    requires { Walkable PLAIN n bones.now }
     ensures answer { meant_pose result ≡ walk_from (bones_of n bones.now) (n - done) from }
 {
-    let mut position = from.pose.position;
-    let mut rotation = from.pose.rotation;
+    let Pose {
+        mut position,
+        mut rotation,
+    } = from.pose;
     let mut p = from.parent;
-    let mut steps = done;
-    while p < NEGATIVE && (p as usize) < n && steps < n {
-        let parent = joint_in(bones, n, p as usize, plain);
+    for _step in done..n {
+        if !climbs(p, n) {
+            break;
+        }
+        let parent = joint_in::<PLAIN>(bones, n, usize::from(p));
         rotation = parent.rotation.quat_mul(rotation);
         position = parent.rotation.quat_rotate(position) + parent.translation;
         p = parent.parent;
-        steps += 1;
     }
     Pose { position, rotation }
 }
@@ -273,35 +265,17 @@ fn raise_lanes(s: &mut [f32], parents: &[f32])
     requires { (length s.old ≡ 28) × (length parents.now ≡ 28) }
     ensures lanes { LanesRaised parents.now s.old s.new }
 {
-    let mut i = 0;
-    while i < LANES {
-        let up = raised(pose_in(&*s, i), pose_in(parents, i));
-        put_pose(&mut *s, i, up);
-        i += 1;
+    for i in 0..LANES {
+        let up = raised(pose_in(s, i), pose_in(parents, i));
+        put_pose(s, i, up);
     }
-}
-
-// Whether a walk goes on to this parent: it is the position of one of n bones.
-fn climbs(p: u16, n: usize) -> bool
-    ensures answer { result ≡ true → Climb n p }
-{
-    p < NEGATIVE && (p as usize) < n
 }
 
 // Whether all four walks go on.
-fn all_climb(p: u16, q: u16, r: u16, s: u16, n: usize) -> bool
-    ensures answer { result ≡ true → Climb n p × Climb n q × Climb n r × Climb n s }
+fn all_climb(parents: &[u16], n: usize) -> bool
+    ensures answer { IsTrue result → EachIndex parents.now (λ k. Climb n (get_or parents.now k 0)) }
 {
-    if !climbs(p, n) {
-        return false;
-    }
-    if !climbs(q, n) {
-        return false;
-    }
-    if !climbs(r, n) {
-        return false;
-    }
-    climbs(s, n)
+    parents.iter().all(|p| climbs(*p, n))
 }
 
 // Four bones climb side by side while all four can: a step of one waits for no step of another. No row has a NaN.
@@ -310,40 +284,33 @@ pub(crate) fn side_by_side(bones: &[u32], n: usize, a: Joint, b: Joint, c: Joint
     ensures answer { SideBySide (bones_of n bones.now) n a b c d result }
 {
     let mut poses = lanes_of(a, b, c, d);
-    let mut p = a.parent;
-    let mut q = b.parent;
-    let mut r = c.parent;
-    let mut s = d.parent;
+    let mut parents = [a.parent, b.parent, c.parent, d.parent];
     let mut steps = 0;
-    while steps < n && all_climb(p, q, r, s, n) {
-        let j = joint_in(bones, n, p as usize, true);
-        let k = joint_in(bones, n, q as usize, true);
-        let l = joint_in(bones, n, r as usize, true);
-        let m = joint_in(bones, n, s as usize, true);
-        let parents = lanes_of(j, k, l, m);
-        raise_lanes(&mut poses, &parents);
-        p = j.parent;
-        q = k.parent;
-        r = l.parent;
-        s = m.parent;
+    while steps < n && all_climb(&parents, n) {
+        let j = joint_in::<true>(bones, n, usize::from(parents[0]));
+        let k = joint_in::<true>(bones, n, usize::from(parents[1]));
+        let l = joint_in::<true>(bones, n, usize::from(parents[2]));
+        let m = joint_in::<true>(bones, n, usize::from(parents[3]));
+        raise_lanes(&mut poses, &lanes_of(j, k, l, m));
+        parents = [j.parent, k.parent, l.parent, m.parent];
         steps += 1;
     }
     Four {
         a: Climber {
             pose: pose_in(&poses, 0),
-            parent: p,
+            parent: parents[0],
         },
         b: Climber {
             pose: pose_in(&poses, 1),
-            parent: q,
+            parent: parents[1],
         },
         c: Climber {
             pose: pose_in(&poses, 2),
-            parent: r,
+            parent: parents[2],
         },
         d: Climber {
             pose: pose_in(&poses, 3),
-            parent: s,
+            parent: parents[3],
         },
         steps,
     }

@@ -49,6 +49,3 @@ sets-laid vs w n at e h =
 module _ (t : List ℕ) {t'' : List ℕ} (z : t'' ≡ cleared (length t)) where
   pub length-cleared : length t'' ≡ length t
   length-cleared = ap length z ∙ length-replicate (length t) 0
-
-  pub still-cleared : t'' ≡ cleared (length t'')
-  still-cleared = z ∙ ap cleared (sym length-cleared)

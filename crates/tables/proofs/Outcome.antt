@@ -1,20 +1,16 @@
 -- Laws of the order of refusals: which answer each test leads to, and back. Assumes nothing.
-use Prim.Native.Nat.{ℕ, ◌≤◌, ◌<◌}
+use Prim.Native.Nat.{ℕ, ◌≤◌}
 use native.Mathlib.Omega.{arith}
 use mathlib.Core.Path.{◌≡◌, refl}
 use mathlib.Core.Bool.{Bool, true, false, ◌&&◌}
 use lib.Dec.{leb}
-use borrow.Author.Tests.{le-leb, lt-leb, leb-true}
+use borrow.Author.Tests.{le-leb, leb-true}
 use Rattle.format.specs.Result.{Res, refused, done, ◌>>=◌, need}
 use Rattle.tables.specs.Outcome.{derived, room_for}
 
 -- ---- from the tests to the answer
 
 module _ {A : Type 0} (n : ℕ) (hold : Bool) (a : A) where
-  pub too_many : 65535 < n → refused 2 ≡ derived n hold a
-  unfolding derived
-  too_many h = rw (lt-leb n 65535 h)
-
   pub no_room : n ≤ 65535 → hold ≡ false → refused 1 ≡ derived n hold a
   unfolding derived
   no_room h e = rw (le-leb n 65535 h, e)

@@ -1,8 +1,5 @@
 -- `derive_children::index::enter` meets its contract. Assumes nothing.
-use native.Mathlib.Omega.{arith}
 use mathlib.Core.Path.{refl}
-use lib.ListN.{get_or, length-set}
-use Rattle.derive_children.proofs.ByParent.{slot_below, linked}
 use Rattle.derive_children.proofs.Entering.{enter-found, enter-new}
 use Rattle.derive_children.proofs.index.enter.Goals as goal
 

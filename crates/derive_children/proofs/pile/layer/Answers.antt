@@ -1,5 +1,4 @@
 -- `derive_children::pile::layer` meets its contract. Assumes nothing.
-use native.Mathlib.Omega.{arith}
 use mathlib.Core.Path.{◌∙◌}
 use Rattle.derive_children.proofs.Layers.{layered}
 use Rattle.derive_children.proofs.pile.layer.Goals as goal

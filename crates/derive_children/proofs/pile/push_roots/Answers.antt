@@ -1,5 +1,4 @@
 -- Each turn pushes one root more, or passes a bone by.
-use native.Mathlib.Omega.{arith}
 use Rattle.derive_children.proofs.Pushing.{rooting_starts, rooting_turns, rooting_ends}
 use Rattle.derive_children.proofs.pile.push_roots.Goals as goal
 

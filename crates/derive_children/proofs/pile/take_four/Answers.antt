@@ -1,7 +1,5 @@
 -- `derive_children::pile::take_four` meets its contract. Assumes nothing.
-use native.Mathlib.Omega.{arith}
-use mathlib.Core.Path.{◌∙◌}
-use Rattle.derive_children.proofs.Taking.{took_four, stacked-some}
+use Rattle.derive_children.proofs.Taking.{took_four}
 use Rattle.derive_children.proofs.pile.take_four.Goals as goal
 
 pub returns : goal.returns

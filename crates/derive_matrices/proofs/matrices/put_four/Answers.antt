@@ -1,46 +1,9 @@
--- `derive_matrices::matrices::put_four` meets its contract. Assumes nothing.
+-- Four rows more, each of its bone's own walk.
 use native.Mathlib.Omega.{arith}
 use Rattle.rows.proofs.Rows.{length-bones_of}
 use Rattle.derive_matrices.proofs.MatrixWords.{length-inverse_of, inverse-walked}
 use Rattle.derive_matrices.proofs.Placing.{continues_four}
 use Rattle.derive_matrices.proofs.matrices.put_four.Goals as goal
-
-pub put_inverse-requires : goal.put_inverse-requires
-put_inverse-requires c =
-    (c.requires.0, omega (arith, c.requires.1, c.requires.2))
-
-pub overflow_add-p-4 : goal.overflow_add-p-4
-overflow_add-p-4 c =
-    omega (arith, c.requires.1, c.ranges.n)
-
-pub put_inverse-requires-2 : goal.put_inverse-requires-2
-put_inverse-requires-2 c =
-    (c.requires.0, omega (arith, c.requires.1, c.requires.2, c.put_inverse.auto.inverse))
-
-pub overflow_add-p-5 : goal.overflow_add-p-5
-overflow_add-p-5 c =
-    omega (arith, c.requires.1, c.ranges.n)
-
-pub put_inverse-requires-3 : goal.put_inverse-requires-3
-put_inverse-requires-3 c =
-    (c.requires.0, omega (arith, c.requires.1, c.requires.2, c.put_inverse-2.auto.inverse, c.put_inverse.auto.inverse))
-
-pub overflow_add-p-6 : goal.overflow_add-p-6
-overflow_add-p-6 c =
-    omega (arith, c.requires.1, c.ranges.n)
-
-pub put_inverse-requires-4 : goal.put_inverse-requires-4
-put_inverse-requires-4 c = (
-  c.requires.0,
-  omega (
-    arith,
-    c.requires.1,
-    c.requires.2,
-    c.put_inverse-3.auto.inverse,
-    c.put_inverse-2.auto.inverse,
-    c.put_inverse.auto.inverse,
-  ),
-)
 
 pub returns : goal.returns
 returns c =
