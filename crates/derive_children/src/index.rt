@@ -1,7 +1,7 @@
 // An index of the bones by parent, in the table lent as the pending list: each position leads to the next one with the same
 // parent, and each bone to its first child. A position is held as a word, one more than it; 0 is none.
 // Of n bones the table's words are: next sibling n, first child n, and then the slots n + 1, links n and heads n of the index,
-// which the pile of pending bones overwrites once every bone has its first child.
+// which the pile of pending bones overwrites once every bone has its first child. (One table, since C lends one: no call has other memory.)
 ghost use Rattle.std.specs.Prelude.{◌≡◌, ℕ, suc, ◌+◌, ◌*◌, ◌≤◌, ◌<◌, length};
 ghost use Rattle.format.specs.Children.{positions};
 ghost use Rattle.format.specs.Rows.{cleared};
@@ -11,7 +11,7 @@ ghost use Rattle.derive_children.specs.Indexing.{indices_for};
 
 use rows::index_at;
 
-// The word of the first along the links from `from` whose parent is v.
+// The word of the first along the links from `from` whose parent is v. (A `while`: the links are followed to their end, and not counted.)
 fn seek(parents: &[u16], t: &[u32], v: u16, from: u32) -> u32
     requires { (8 * (length parents.now + 1) ≤ length t.now) × LinkedFrom parents.now (link_at parents.now t.now) from }
     ensures answer { Sought parents.now (link_at parents.now t.now) v from result }

@@ -18,7 +18,7 @@ struct One {
     top: usize,
 }
 
-// The words of the first children of four bones taken, and how many words the pile then has.
+// The words of the first children of four bones taken, and how many words the pile then has. (By name, as each is pushed by a call of its own.)
 #[derive(Clone, Copy)]
 struct Four {
     a: u32,

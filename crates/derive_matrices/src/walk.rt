@@ -38,7 +38,7 @@ pub struct Climber {
     pub parent: u16,
 }
 
-// Four bones on their walks, each so many steps up.
+// Four bones on their walks, each so many steps up. (By name: a clause that reads an array of structs by index names a default for each.)
 #[derive(Clone, Copy)]
 pub struct Four {
     pub a: Climber,
