@@ -76,14 +76,12 @@ fn scan(pool: &[u64], va: u64, from: usize, to: usize) -> usize
     requires { (from ≤ to) × (to ≤ pool_rows pool.now) }
     ensures { Scanned pool.now va from to result }
 {
-    let mut i = from;
-    while i < to {
+    for i in from..to {
         if ends_at(pool, va, i) {
             return i;
         }
-        i += 1;
     }
-    i
+    to
 }
 
 // Where the search for an address from its home on ends, as `place` says: near the home, in the tree, or behind the rows that a link can

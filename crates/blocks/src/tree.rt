@@ -12,7 +12,7 @@ use format::POOL_WORDS;
 // The rows that a link of 30 bits can lead to.
 const LINKABLE: usize = 1073741823;
 
-// Where the path of an address ends.
+// Where the path of an address ends. Its own enum: both ends are answers, and neither is an error.
 #[derive(Clone, Copy)]
 pub(crate) enum Ended {
     // at the row of the address

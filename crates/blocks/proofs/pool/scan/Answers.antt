@@ -1,4 +1,8 @@
 -- `blocks::pool::scan` meets its contract: the rows that the loop has passed are other addresses'. Assumes nothing.
+use mathlib.Core.Path.{◌≡◌, subst}
+use Prim.Native.Nat.{ℕ}
+use native.Mathlib.Omega.{arith}
+use Rattle.blocks.specs.Hashed.{Scanned}
 use Rattle.blocks.proofs.Scanning.{passed_none, passed-more, scanned-here, scanned-past}
 use Rattle.blocks.proofs.pool.scan.Goals as goal
 
@@ -17,4 +21,6 @@ loop-i-preserved c =
 
 pub returns : goal.returns
 returns c =
-    scanned-past c.args.pool.now c.args.va c.args.from c.args.to c.loop-i.i c.loop-i.invariant c.loop-i-test.false
+    let end = scanned-past c.args.pool.now c.args.va c.args.from c.args.to c.loop-i.i c.loop-i.invariant c.loop-i-test.false in
+    let e : c.loop-i.i ≡ c.args.to = omega (arith, end.high, c.loop-i-test.false) in
+    subst (λ (r : ℕ). Scanned c.args.pool.now c.args.va c.args.from c.args.to r) e end

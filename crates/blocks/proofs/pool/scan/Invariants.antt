@@ -1,10 +1,6 @@
 -- `blocks::pool::scan` meets its contract: the rows that the loop has passed are other addresses'. Assumes nothing.
-use Prim.Native.Nat.{◌-◌}
 use Rattle.blocks.proofs.Scanning.{Passed}
 use Rattle.blocks.proofs.pool.scan.Given as goal
 
 abbrev pub invariant-loop-i : goal.invariant-loop-i
 invariant-loop-i l = Passed l.pool l.va l.from l.to l.i
-
-abbrev pub decreases-loop-i : goal.decreases-loop-i
-decreases-loop-i l = l.to - l.i
