@@ -12,7 +12,7 @@ use std::fs;
 fn the_table_is_the_librarys() {
     let source = fs::read_to_string(concat!(env!("CARGO_MANIFEST_DIR"), "/../../crates/format/src/lib.rt")).expect("the source");
     let line = |line: &str| {
-        let (name, number) = line.trim().strip_prefix("Refusal::")?.strip_suffix(',')?.split_once(" => ")?;
+        let (name, number) = line.trim().strip_suffix(',')?.split_once(" = ")?;
         Some((name.to_string(), number.parse::<u32>().ok()?))
     };
     let listed: Vec<_> = source.lines().filter_map(line).collect();
