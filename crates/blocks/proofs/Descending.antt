@@ -7,7 +7,7 @@ use native.Mathlib.Nat.{eq-or-lt_of_le}
 use native.Mathlib.Omega.{arith}
 use lib.ListN.{get_or}
 use Rattle.blocks.specs.Tree.{link_in, linkable, halved, turned_of, side_at, below, path_at, EndsBehind}
-use Rattle.blocks.specs.Hashed.{pool_rows, code_at, key, links, path_in, PathPassed, PathFound, PathLeft, FreeAt}
+use Rattle.blocks.specs.Hashed.{pool_rows, code_at, key, links, path_in, PathPassed, PathFound, PathLeft, FreeAt, NoneFree}
 use Rattle.blocks.proofs.Cases.{le-or-lt}
 use Rattle.blocks.proofs.Paths.{linkable_le, below-is, path-next, zero_stays}
 
@@ -53,11 +53,11 @@ module _ (t : List ℕ) (a : ℕ) where
       along-found e = record { depth = p.depth; is = next_row; before = p.before; address = e }
 
       pub along-more :
-          (get_or t (4 * (next - 1)) 0 ≡ a → ⊥) → (x : ℕ) → x ≡ link_in (get_or t (4 * (next - 1) + 1) 0) (bits % 2) →
-          Along t a (bits / 2) (bits % 2) (next - 1) (next - 1) x
+          (get_or t (4 * (next - 1)) 0 ≡ a → ⊥) → (s : ℕ) → s ≡ bits % 2 → (x : ℕ) →
+          x ≡ link_in (get_or t (4 * (next - 1) + 1) 0) s → Along t a (bits / 2) s (next - 1) (next - 1) x
       unfolding links halved
-      along-more n x e =
-          let side-is : bits % 2 ≡ side_at a p.depth = ap (λ (b : ℕ). b % 2) p.rest in
+      along-more n s f x e =
+          let side-is : s ≡ side_at a p.depth = f ∙ ap (λ (b : ℕ). b % 2) p.rest in
           record {
             depth = suc p.depth;
             rest = ap (λ (b : ℕ). b / 2) p.rest;
@@ -67,11 +67,11 @@ module _ (t : List ℕ) (a : ℕ) where
             before =
                 λ d i u h z.
                 ⊎_elim
-                (λ s.
-                let g : suc i ≡ suc (next - 1) = sym h ∙ ap (path_in t a) s ∙ next_row in
+                (λ q.
+                let g : suc i ≡ suc (next - 1) = sym h ∙ ap (path_in t a) q ∙ next_row in
                 let k : i ≡ next - 1 = omega arith in
                 n (sym (ap (λ (y : ℕ). get_or t (4 * y) 0) k) ∙ z))
-                (λ s. p.before d i s h z)
+                (λ q. p.before d i q h z)
                 (eq-or-lt_of_le {n = d} {m = p.depth} (omega arith));
             stands = (next_row, side-is);
             low = omega (arith, p.low);
@@ -106,29 +106,20 @@ module _ (t : List ℕ) (a : ℕ) where
 -- the rows from i on that are not known to be taken are used
 pub record Sought (t : List ℕ) (taken i : ℕ) : Type 0 where
   pub count : taken ≡ links t 0 1
-  pub low : i + taken ≤ linkable (pool_rows t)
+  pub low : i ≤ linkable (pool_rows t) - taken
   pub room : i ≤ pool_rows t
   pub above : (k : ℕ) → i ≤ k → k + taken < linkable (pool_rows t) → 0 < key t k
 
 module _ (t : List ℕ) (taken : ℕ) where
-  pub sought_none : (m : ℕ) → m ≡ linkable (pool_rows t) → taken ≡ link_in (get_or t 1 0) 1 → taken < m → Sought t taken (m - taken)
+  pub sought_none :
+      (m i : ℕ) → m ≡ linkable (pool_rows t) → taken ≡ link_in (get_or t 1 0) 1 → i ≡ m - taken → Sought t taken i
   unfolding links
-  sought_none m e f l =
+  sought_none m i e f d =
       record {
         count = f;
         low = omega arith;
         room = omega (arith, linkable_le (pool_rows t));
         above = λ k g h. absurd (omega arith);
-      }
-
-  pub free-none : (m : ℕ) → m ≡ linkable (pool_rows t) → taken ≡ link_in (get_or t 1 0) 1 → m ≤ taken → FreeAt t m
-  unfolding links
-  free-none m e f l =
-      record {
-        high = omega arith;
-        free = λ h. absurd (omega arith);
-        above = λ i g h. absurd (omega (arith, f));
-        none = λ h i g. absurd (omega (arith, f));
       }
 
   module _ (i : ℕ) (p : Sought t taken i) where
@@ -149,17 +140,10 @@ module _ (t : List ℕ) (taken : ℕ) where
     pub free-found : 0 < i → key t (i - 1) ≡ 0 → FreeAt t (i - 1)
     free-found l z =
         record {
-          high = omega (arith, p.low);
-          free = λ h. z;
+          low = omega (arith, p.low);
+          free = z;
           above = λ k g h. p.above k (omega arith) (omega (arith, p.count));
-          none = λ h. absurd (omega (arith, p.low));
         }
 
-    pub free-nowhere : i ≡ 0 → (m : ℕ) → m ≡ linkable (pool_rows t) → FreeAt t m
-    free-nowhere z m e =
-        record {
-          high = omega arith;
-          free = λ h. absurd (omega arith);
-          above = λ k g h. p.above k (omega arith) (omega (arith, p.count));
-          none = λ h k g. p.above k (omega arith) (omega (arith, p.count));
-        }
+    pub free-nowhere : i ≡ 0 → NoneFree t
+    free-nowhere z k g = p.above k (omega arith) (omega (arith, p.count))

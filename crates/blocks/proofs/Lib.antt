@@ -1,11 +1,11 @@
 pub mod Standing
-pub mod Naming
 pub mod Codes
 pub mod Entering
 pub mod Cases
 pub mod Paths
 pub mod Counting
 pub mod Search
+pub mod Keeping
 pub mod Links
 pub mod Descending
 pub mod Linking

@@ -4,7 +4,8 @@ use mathlib.Core.List.{List}
 use Prim.Native.Nat.{ℕ, ◌+◌, ◌*◌, ◌-◌, ◌<◌}
 use lib.ListN.{get_or, set}
 use Rattle.blocks.specs.Tree.{linkable, with_link}
-use Rattle.blocks.specs.Hashed.{pool_rows, code_at, EndOf, PathLeft, PathEnds, Linked, with_links}
+use Rattle.blocks.specs.Hashed.{pool_rows, code_at, side_number, EndOf, PathLeft, PathEnds, Linked, with_links}
+use Rattle.blocks.specs.declared.tree.Side.{Side}
 use Rattle.blocks.specs.declared.tree.Ended.{Ended}
 use Rattle.blocks.specs.declared.tree.Ended.TheVariants.{At, Behind}
 
@@ -21,12 +22,12 @@ module _ (t : List ℕ) (a f : ℕ) (r : Ended) (p : PathEnds t a r) where
       let g = subst (EndOf t a) e p.end in
       record { at = 0; side = 0; ends = λ m. absurd (m g.depth i g.is g.address) }
 
-  module _ (at s : ℕ) (e : r ≡ Behind at s) where
-    left : PathLeft t a at s
+  module _ (at : ℕ) (s : Side) (e : r ≡ Behind at s) where
+    left : PathLeft t a at (side_number s)
     left = subst (EndOf t a) e p.end
 
     pub end_row : at < pool_rows t
     end_row = left.row
 
-    pub linked-left : (t'' : List ℕ) → t'' ≡ with_links t f at s → Linked f a t t''
-    linked-left t'' h = record { at = at; side = s; ends = λ m. (left, h) }
+    pub linked-left : (t'' : List ℕ) → t'' ≡ with_links t f at (side_number s) → Linked f a t t''
+    linked-left t'' h = record { at = at; side = side_number s; ends = λ m. (left, h) }

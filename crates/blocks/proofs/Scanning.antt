@@ -1,6 +1,7 @@
 -- The laws of a search in a table: the ways out of `scan`, `search` and `place`. Those of the tree are in `Descending`. Assumes nothing.
 use mathlib.Core.Path.{◌≡◌, refl, sym, ap, subst, ◌∙◌}
 use mathlib.Core.Bool.{true}
+use Rattle.std.specs.Prelude.{Option, None, Some}
 use mathlib.Core.List.{List}
 use mathlib.Core.Logic.{⊎_elim}
 use Prim.Native.Nat.{ℕ, zero, suc, ◌+◌, ◌*◌, ◌<◌, ◌≤◌}
@@ -10,8 +11,9 @@ use borrow.Author.Tests.{eqb-true, eqb-false}
 use lib.Dec.{eqb}
 use lib.ListN.{get_or}
 use Rattle.blocks.specs.Tree.{kind_in, linkable}
-use Rattle.blocks.specs.Hashed.{pool_rows, code_at, key_of, key, links, home_of, Other, EndsAt, Scanned, NearPassed, PathMissed, EndOf, PathEnds, FreeAt}
-use Rattle.blocks.specs.Hashed.{PlacedAt, near, along, untaken, beyond}
+use Rattle.blocks.specs.Hashed.{pool_rows, code_at, key_of, key, links, home_of, Other, EndsAt, FirstAt, Scanned, NearPassed}
+use Rattle.blocks.specs.Hashed.{side_number, EndOf, PathEnds, FreeFound, Missed, FarPast, PlacedIn, near, along, beyond, Untaken}
+use Rattle.blocks.specs.declared.tree.Side.{Side}
 use Rattle.blocks.specs.declared.tree.Ended.{Ended}
 use Rattle.blocks.specs.declared.tree.Ended.TheVariants.{At, Behind}
 use Rattle.blocks.proofs.Paths.{linkable_le, path_lt}
@@ -84,56 +86,63 @@ module _ (t : List ℕ) (a from to : ℕ) where
               (eq-or-lt_of_le {n = k} {m = i} (omega arith));
         }
 
-    pub scanned-here : (0 < key t i → key t i ≡ suc a) → Scanned t a from to i
-    scanned-here e = record { low = p.low; high = p.high; passed = p.passed; ends = λ l. e }
+    pub scanned-here : i < to → (0 < key t i → key t i ≡ suc a) → FirstAt t a from to i
+    scanned-here l e = record { low = p.low; high = l; passed = p.passed; ends = e }
 
-    pub scanned-past : to ≤ i → Scanned t a from to i
-    scanned-past h = record { low = p.low; high = p.high; passed = p.passed; ends = λ l u. absurd (omega arith) }
+    pub scanned-past : to ≤ i → Scanned t a from to None
+    scanned-past h k l m = p.passed k l (omega arith)
 
 -- ---- near the home
 
 module _ (t : List ℕ) (a h : ℕ) (is : h ≡ home_of a (pool_rows t)) where
   -- at the home itself
-  pub placed_first : h < pool_rows t → (0 < key t h → key t h ≡ suc a) → PlacedAt t a h
+  pub placed_first : h < pool_rows t → (0 < key t h → key t h ≡ suc a) → PlacedIn t a h
   placed_first l e = near l (omega arith, omega arith) (λ i x y. absurd (omega arith)) e
 
-  module _ (e i : ℕ) (c : Scanned t a h e i) where
-    pub placed-near : i < e → e ≤ pool_rows t → e ≤ h + 16 → PlacedAt t a i
-    placed-near l o m =
-        near (omega arith) (omega (arith, c.low), omega arith) (λ k x y. c.passed k (omega arith) y) (c.ends l)
+  module _ (e : ℕ) {r : Option ℕ} (c : Scanned t a h e r) where
+    pub placed-near : (i : ℕ) → r ≡ Some i → e ≤ pool_rows t → e ≤ h + 16 → PlacedIn t a i
+    placed-near i x o m =
+        let f : FirstAt t a h e i = subst (Scanned t a h e) x c in
+        near (omega (arith, f.high)) (omega (arith, f.low), omega (arith, f.high)) (λ k y z. f.passed k (omega arith) z) f.ends
 
-    pub near-passed : e ≤ i → ((k : ℕ) → k < h + 16 → k < pool_rows t → k < e) → NearPassed t a
-    near-passed l f k x y = let m : k < e = f k (omega (arith, x.1)) y in c.passed k (omega (arith, x.0)) (omega arith)
+    pub near-passed : r ≡ None → ((k : ℕ) → k < h + 16 → k < pool_rows t → k < e) → NearPassed t a
+    near-passed x f k y z =
+        subst (Scanned t a h e) x c k (omega (arith, y.0)) (f k (omega (arith, y.1)) z)
 
 -- ---- in the tree, and behind the rows that can be linked
 
 module _ (t : List ℕ) (a : ℕ) (full : NearPassed t a) (r : Ended) (p : PathEnds t a r) where
-  pub placed-along : (i : ℕ) → r ≡ At i → PlacedAt t a i
+  pub placed-along : (i : ℕ) → r ≡ At i → PlacedIn t a i
   placed-along i e = along full (subst (EndOf t a) e p.end)
 
-  module _ (at s : ℕ) (e : r ≡ Behind at s) (f : ℕ) (g : FreeAt t f) (m : ℕ) (is : m ≡ linkable (pool_rows t)) where
-    missed : PathMissed t a
-    missed = left-missed t a at s (subst (EndOf t a) e p.end)
+  module _ (at : ℕ) (s : Side) (e : r ≡ Behind at s) where
+    missed : Missed t a
+    missed = record { near = full; path = left-missed t a at (side_number s) (subst (EndOf t a) e p.end) }
 
-    pub placed-untaken : f < m → PlacedAt t a (pool_rows t + 1 + f)
-    placed-untaken l = untaken f (omega arith) full (record { low = omega arith; free = g; missed = missed })
+    module _ {f : Option ℕ} (g : FreeFound t f) where
+      pub placed-untaken : (i : ℕ) → f ≡ Some i → Untaken t a i
+      placed-untaken i d = record { free = subst (FreeFound t) d g; missed = missed }
 
-    pub placed-beyond : m ≤ f → (i : ℕ) → Scanned t a m (pool_rows t) i → PlacedAt t a i
-    placed-beyond l i c = beyond full (record { missed = missed; full = g.none (omega arith); scanned = rw is at c })
+      module _ (d : f ≡ None) (m : ℕ) (is : m ≡ linkable (pool_rows t)) {x : Option ℕ} (c : Scanned t a m (pool_rows t) x) where
+        far : FarPast t a x
+        far = record { missed = missed; full = subst (FreeFound t) d g; scanned = rw is at c }
+
+        pub placed-beyond : (i : ℕ) → x ≡ Some i → PlacedIn t a i
+        placed-beyond i y = beyond (subst (FarPast t a) y far)
+
+        pub placed-full : x ≡ None → FarPast t a None
+        placed-full y = subst (FarPast t a) y far
 
 -- a table of no rows
-pub placed-nowhere : (t : List ℕ) (a : ℕ) → pool_rows t ≡ 0 → PlacedAt t a 0
+pub placed-nowhere : (t : List ℕ) (a : ℕ) → pool_rows t ≡ 0 → FarPast t a None
 placed-nowhere t a z =
     let m : linkable (pool_rows t) ≤ pool_rows t = linkable_le (pool_rows t) in
-    beyond (λ i x l. absurd (omega arith))
-    (record {
-      missed = λ d i e h. omega (arith, path_lt (links t) (linkable (pool_rows t)) a d i e);
-      full = λ i l. absurd (omega arith);
-      scanned =
+    record {
+      missed =
           record {
-            low = omega arith;
-            high = omega arith;
-            passed = λ i l o. absurd (omega arith);
-            ends = λ l u. absurd (omega arith);
+            near = λ i x l. absurd (omega arith);
+            path = λ d i e h. omega (arith, path_lt (links t) (linkable (pool_rows t)) a d i e);
           };
-    })
+      full = λ i l. absurd (omega arith);
+      scanned = λ k l o. absurd (omega arith);
+    }

@@ -4,10 +4,10 @@ use mathlib.Core.Path.{◌≡◌, refl, sym, ap, subst, ◌∙◌}
 use Rattle.std.specs.Prelude.{Option, None, Some, Result, Ok, Err}
 use mathlib.Core.List.{List, [], ◌∷◌, ◌++◌}
 use mathlib.Core.Logic.{⊎_elim}
-use Prim.Native.Nat.{ℕ, suc, ◌+◌, ◌*◌, ◌/◌, ◌-◌, ◌<◌}
+use Prim.Native.Nat.{ℕ, suc, ◌+◌, ◌/◌, ◌-◌, ◌<◌}
 use native.Mathlib.Omega.{arith}
 use borrow.Author.Tests.{lt-ltb, le-ltb}
-use lib.ListN.{length, get_or, length-append}
+use lib.ListN.{length, length-append}
 use Rattle.format.specs.Result.{Res, refused, done, ◌>>=◌}
 use Rattle.format.specs.Tables.{Kind, Rows, Pooled, pooled, Tables, Room, with_pool, find, replace, put}
 use Rattle.format.specs.Refusal.{number}
@@ -15,52 +15,40 @@ use Rattle.format.specs.declared.Refusal.{Refusal}
 use Rattle.format.specs.declared.Refusal.TheVariants.{TableTooShort}
 use Rattle.blocks.specs.declared.pool.Pooled as ours
 use Rattle.blocks.specs.Tree.{linkable}
-use Rattle.blocks.specs.Hashed.{pool_rows, key, links, val, path_in, HashHolds, Represents, NearPassed, PathLeft, FreeAt}
-use Rattle.blocks.specs.Hashed.{PathFound, PlacedAt, near, along, untaken, beyond}
+use Rattle.blocks.specs.Hashed.{pool_rows, key, links, val, HashHolds, Represents, PathLeft}
+use Rattle.blocks.specs.Hashed.{FarPast, PlacedIn, Untaken}
 use Rattle.blocks.specs.Hashed.{with_row, relinked, with_links, Linked}
 use Rattle.blocks.specs.Pool.{meant_found, meant_stored, enter, Finds, Left, Entered, Stores}
 use Rattle.blocks.proofs.Entering.{find-replace-same, find-replace-other, length-replace}
 use Rattle.blocks.proofs.Entering.{find-append-same, find-append-other, find-enter-same, find-enter-other, put-enter}
 use Rattle.blocks.proofs.Cases.{le-or-lt}
-use Rattle.blocks.proofs.Paths.{linkable_le, linkable_lt, path_lt}
+use Rattle.blocks.proofs.Paths.{linkable_le, linkable_lt}
 use Rattle.blocks.proofs.Search.{all-full, tree_absent, unique, tip_first, tip_side}
-use Rattle.blocks.proofs.Search.{Entering, Leading, stored-holds, leading_same, leading_linked}
+use Rattle.blocks.proofs.Keeping.{Entering, Leading, stored-holds, leading_same, leading_linked}
 use Rattle.blocks.proofs.Scanning.{key-address, placed-nowhere}
 use Rattle.blocks.proofs.RowWords.{length-with_row, key-same, key-other, val_same, val-other, links-kept}
 use Rattle.blocks.proofs.RowWords.{length-relinked, key-relinked, val-relinked, links-relinked-same, links-relinked-other}
-use Rattle.blocks.proofs.Table.{holds_rows, represents_size, row-own, placed_absent, placed_reaches}
+use Rattle.blocks.proofs.Table.{holds_rows, represents_size, row_lt, row-own, placed_reaches, free-absent, full-absent}
 
 -- ---- put
 
-module _ (t : List ℕ) (p : Pooled) where
-  full_by :
-      (i : ℕ) → PlacedAt t p.address i → i ≡ pool_rows t → {q : List Pooled} →
-      HashHolds (pool_rows t) (key t) (links t) (val t) q → length q ≡ pool_rows t
-  full_by i (near l x f e) s H = absurd (omega arith)
-  full_by i (along f h) s H =
-      absurd
-      (omega (arith, linkable_le (pool_rows t), path_lt (links t) (linkable (pool_rows t)) p.address h.depth i h.is))
-  full_by i (untaken k e f h) s H = absurd (omega arith)
-  full_by i (beyond f h) s {q} H =
-      all-full (pool_rows t) (key t) (links t) (val t) q H λ k l.
-      ⊎_elim
-      (λ c. (h.scanned.passed k c (omega arith)).0)
-      (λ c. ⊎_elim (λ d. H.taken k d c) (λ d. h.full k d) (le-or-lt (linkable (pool_rows t)) (k + links t 0 1)))
-      (le-or-lt (linkable (pool_rows t)) k)
-
-  -- a table whose search ends at the number of rows is full
-  pub stores-full : (i : ℕ) → PlacedAt t p.address i → i ≡ pool_rows t → Stores p (Err TableTooShort) t t
-  stores-full i g s =
-      record {
-        entered =
-            λ {n} {q} r.
-            let H = holds_rows r in
-            let absent : find p.address q ≡ None =
-            H.nowhere p.address (placed_absent t p.address i g H (λ l. absurd (omega arith)))
-            in
-            let full : length q ≡ pool_rows t = full_by i g s H in
-            record { after = q; answer = simp (absent, le-ltb (length q) n (omega (arith, r.size))); table = refl };
-      }
+-- a table whose search ends at no row, none being free, is full
+pub stores-full : (t : List ℕ) (p : Pooled) → FarPast t p.address None → Stores p (Err TableTooShort) t t
+stores-full t p g =
+    record {
+      entered =
+          λ {n} {q} r.
+          let H = holds_rows r in
+          let absent : find p.address q ≡ None = H.nowhere p.address (full-absent t p.address H g) in
+          let full : length q ≡ pool_rows t =
+          all-full (pool_rows t) (key t) (links t) (val t) q H λ k l.
+          ⊎_elim
+          (λ c. (g.scanned k c l).0)
+          (λ c. ⊎_elim (λ d. H.taken k d c) (λ d. g.full k d) (le-or-lt (linkable (pool_rows t)) (k + links t 0 1)))
+          (le-or-lt (linkable (pool_rows t)) k)
+          in
+          record { after = q; answer = simp (absent, le-ltb (length q) n (omega (arith, r.size))); table = refl };
+    }
 
 -- the row r of the table t takes p, and then the table is t''
 module _ (t : List ℕ) (p : Pooled) (r : ℕ) (room : r < pool_rows t) (t'' : List ℕ) (size : length t'' ≡ length t) where
@@ -133,29 +121,32 @@ module _ (t : List ℕ) (p : Pooled) (r : ℕ) (room : r < pool_rows t) (t'' : L
 
 -- ---- the row that the search ended at
 
-module _ (t : List ℕ) (p : Pooled) (i : ℕ) (g : PlacedAt t p.address i) (room : i < pool_rows t) where
+module _ (t : List ℕ) (p : Pooled) (i : ℕ) (g : PlacedIn t p.address i) where
+  low : i < pool_rows t
+  low = row_lt t p.address i g
+
   abbrev t'' : List ℕ
   t'' = with_row t i p
 
   leads-same :
       {n : ℕ} {q : List Pooled} (h : Represents t n q) →
-      Leads t p i room t'' (length-with_row t i p) (key-same t i p room) (val_same t i p room) (key-other t i p) (val-other t i p) h
+      Leads t p i low t'' (length-with_row t i p) (key-same t i p low) (val_same t i p low) (key-other t i p) (val-other t i p) h
   leads-same {n} {q} h ends only =
-      leading_same (pool_rows t) (key t) (links t) (val t) q (holds_rows h) p i (key t'') (links t'') (val t'') room ends only
-      (key-same t i p room) (val_same t i p room) (key-other t i p) (val-other t i p) (links-kept t i p room)
-      (placed_reaches t p.address i g room (holds_rows h))
+      leading_same (pool_rows t) (key t) (links t) (val t) q (holds_rows h) p i (key t'') (links t'') (val t'') low ends only
+      (key-same t i p low) (val_same t i p low) (key-other t i p) (val-other t i p) (links-kept t i p low)
+      (placed_reaches t p.address i g (holds_rows h))
 
   again : {n : ℕ} {q : List Pooled} (h : Represents t n q) → 0 < key t i → Entered n p q (Ok tt) t t''
   again {n} {q} h u =
-      let own : key t i ≡ suc p.address = row-own t p.address i g room u in
-      entered_again t p i room t'' (length-with_row t i p) (key-same t i p room) (val_same t i p room) (key-other t i p)
+      let own : key t i ≡ suc p.address = row-own t p.address i g u in
+      entered_again t p i low t'' (length-with_row t i p) (key-same t i p low) (val_same t i p low) (key-other t i p)
       (val-other t i p) h (leads-same h) own
-      (λ j l k. unique (pool_rows t) (key t) (links t) (val t) q (holds_rows h) p.address j i l room k own)
+      (λ j l k. unique (pool_rows t) (key t) (links t) (val t) q (holds_rows h) p.address j i l low k own)
 
   new : {n : ℕ} {q : List Pooled} (h : Represents t n q) → key t i ≡ 0 → Entered n p q (Ok tt) t t''
   new h z =
-      entered-new t p i room t'' (length-with_row t i p) (key-same t i p room) (val_same t i p room) (key-other t i p)
-      (val-other t i p) h (leads-same h) z (placed_absent t p.address i g (holds_rows h) (λ l. z))
+      entered-new t p i low t'' (length-with_row t i p) (key-same t i p low) (val_same t i p low) (key-other t i p)
+      (val-other t i p) h (leads-same h) z (free-absent t p.address (holds_rows h) i g z)
 
   pub stores-done : Stores p (Ok tt) t t''
   stores-done = record { entered = λ h. ⊎_elim (again h) (λ z. new h (omega arith)) (le-or-lt 1 (key t i)) }
@@ -233,10 +224,11 @@ module _ (t : List ℕ) (p : Pooled) (f : ℕ) (at s : ℕ) where
         ∙ links-relinked-same t at s (f + 1) low small₁ ∙ omega arith
 
   module _
-      (linked : f < linkable (pool_rows t)) (full : NearPassed t p.address)
-      (missed : (d j : ℕ) → path_in t p.address d ≡ suc j → get_or t (4 * j) 0 ≡ p.address → ⊥) (F : FreeAt t f)
-      (L : PathLeft t p.address at s)
+      (U : Untaken t p.address f) (L : PathLeft t p.address at s)
     where
+      linked : f < linkable (pool_rows t)
+      linked = U.free.low
+
       some-row : 0 < pool_rows t
       some-row = omega (arith, linkable_le (pool_rows t))
 
@@ -246,12 +238,12 @@ module _ (t : List ℕ) (p : Pooled) (f : ℕ) (at s : ℕ) where
       module _ {n : ℕ} {q : List Pooled} (h : Represents t n q) where
         side : s < 2
         side =
-            tip_side (pool_rows t) (key t) (links t) (val t) q (holds_rows h) f linked (F.free linked) p.address L.depth at s
+            tip_side (pool_rows t) (key t) (links t) (val t) q (holds_rows h) f linked U.free.free p.address L.depth at s
             L.ends
 
         apart : at ≡ 0 → s ≡ 0
         apart =
-            tip_first (pool_rows t) (key t) (links t) (val t) q (holds_rows h) f linked (F.free linked) p.address L.depth at s
+            tip_first (pool_rows t) (key t) (links t) (val t) q (holds_rows h) f linked U.free.free p.address L.depth at s
             L.ends
 
         leads-linked :
@@ -260,52 +252,32 @@ module _ (t : List ℕ) (p : Pooled) (f : ℕ) (at s : ℕ) where
         leads-linked ends only =
             leading_linked (pool_rows t) (key t) (links t) (val t) q (holds_rows h) p f (key u₃) (links u₃) (val u₃) room ends only
             (same_key L.row some-row linked side) (same-val L.row some-row linked side) (other_key L.row some-row linked side)
-            (other-val L.row some-row linked side) linked (F.free linked) F.above full
-            (λ d j e k. missed d j e (key-address t j p.address k)) at s (new₃ L.row some-row linked side apart)
+            (other-val L.row some-row linked side) linked U.free.free U.free.above U.missed.near
+            (λ d j e k. U.missed.path d j e (key-address t j p.address k)) at s (new₃ L.row some-row linked side apart)
             (count₃ L.row some-row linked side) (other₃ L.row some-row linked side) L.depth L.ends
 
         taken-new : Entered n p q (Ok tt) t u₃
         taken-new =
             entered-new t p f room u₃ (size₃ L.row some-row linked side) (same_key L.row some-row linked side)
             (same-val L.row some-row linked side) (other_key L.row some-row linked side) (other-val L.row some-row linked side) h
-            leads-linked (F.free linked)
-            (tree_absent (pool_rows t) (key t) (links t) (val t) q (holds_rows h) p.address full
-            (λ d j e k. missed d j e (key-address t j p.address k)) f linked (F.free linked))
+            leads-linked U.free.free
+            (tree_absent (pool_rows t) (key t) (links t) (val t) q (holds_rows h) p.address U.missed.near
+            (λ d j e k. U.missed.path d j e (key-address t j p.address k)) f linked U.free.free)
 
       pub stores-taken : Stores p (Ok tt) t u₃
       stores-taken = record { entered = λ h. taken-new h }
 
--- ---- the ways out of `put`, by the number at which its search ended
-
--- a number of a row tells that the path has none there
-path-row : (t : List ℕ) (a i : ℕ) → PathFound t a i → i < pool_rows t
-path-row t a i h =
-    omega (arith, linkable_le (pool_rows t), path_lt (links t) (linkable (pool_rows t)) a h.depth i h.is)
-
--- the row that `link` is called with
-pub free-low : (t : List ℕ) (a i : ℕ) → PlacedAt t a i → pool_rows t < i → i - pool_rows t - 1 < linkable (pool_rows t)
-free-low t a i (near l x f e) o = absurd (omega arith)
-free-low t a i (along f h) o = absurd (omega (arith, path-row t a i h))
-free-low t a i (untaken k e f h) o = omega (arith, h.low)
-free-low t a i (beyond f h) o = absurd (omega (arith, h.scanned.high))
+-- ---- the ways out of `put`
 
 module _ (t : List ℕ) (p : Pooled) where
   -- a table of no rows
   pub stores-none : pool_rows t ≡ 0 → Stores p (Err TableTooShort) t t
-  stores-none z = stores-full t p (pool_rows t) (rw z (placed-nowhere t p.address z)) refl
+  stores-none z = stores-full t p (placed-nowhere t p.address z)
 
-  pub stores-linked :
-      (i : ℕ) → PlacedAt t p.address i → pool_rows t < i → (u : List ℕ) → Linked (i - pool_rows t - 1) p.address t u →
-      Stores p (Ok tt) t (with_row u (i - pool_rows t - 1) p)
-  stores-linked i (near l x f e) o u k = absurd (omega arith)
-  stores-linked i (along f h) o u k = absurd (omega (arith, path-row t p.address i h))
-  stores-linked i (untaken j e f h) o u k =
-      let s : j ≡ i - pool_rows t - 1 = omega arith in
-      let left = k.ends h.missed in
-      rw left.1
-      (stores-taken t p (i - pool_rows t - 1) k.at k.side (omega (arith, h.low)) f h.missed
-      (subst (FreeAt t) s h.free) left.0)
-  stores-linked i (beyond f h) o u k = absurd (omega (arith, h.scanned.high))
+  pub stores-linked : (f : ℕ) → Untaken t p.address f → (u : List ℕ) → Linked f p.address t u → Stores p (Ok tt) t (with_row u f p)
+  stores-linked f h u k =
+      let left = k.ends h.missed.path in
+      rw left.1 (stores-taken t p f k.at k.side h left.0)
 
 -- ---- for callers: what a store tells of the pool
 

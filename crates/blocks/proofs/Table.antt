@@ -18,8 +18,10 @@ use Rattle.format.specs.declared.Refusal.{Refusal}
 use Rattle.blocks.specs.declared.pool.Pooled as our
 use Rattle.blocks.specs.declared.pool.Stored.{Stored}
 use Rattle.blocks.specs.Tree.{kind_in, link_in, linkable, path_at}
-use Rattle.blocks.specs.Hashed.{pool_rows, code_at, key, links, val, used, HashHolds, Represents, PlacedAt}
-use Rattle.blocks.specs.Hashed.{near, along, untaken, beyond, Reaches}
+use Rattle.blocks.specs.Hashed.{pool_rows, code_at, key, links, val, used, HashHolds, Represents, Missed, FarPast}
+use Rattle.blocks.specs.Hashed.{PlacedIn, near, along, beyond, Untaken, PlacedAt, Reaches}
+use Rattle.blocks.specs.declared.pool.Spot.{Spot}
+use Rattle.blocks.specs.declared.pool.Spot.TheVariants.{Row, Tree, Full}
 use Rattle.blocks.specs.Hashed.Reaches.{near as reaches-near, along as reaches-along, beyond as reaches-beyond}
 use Rattle.blocks.specs.Pool.{meant_found, meant_cached, Finds, FindsAs}
 use Rattle.blocks.proofs.Cases.{le-or-lt, eq-or-ne}
@@ -114,76 +116,93 @@ module _ {t : List ℕ} {n : ℕ} {q p : List Pooled} (h : Represents t n q) (g 
 -- ---- find
 
 module _ (t : List ℕ) (a i : ℕ) where
-  -- the row where the search ends is the address's, if it is one and not free
-  pub row-own : PlacedAt t a i → i < pool_rows t → 0 < key t i → key t i ≡ suc a
-  row-own (near l x f e) o u = e u
-  row-own (along f h) o u = by (kind_in (code_at t i)) refl
+  -- the row where the search ends lies in the table
+  pub row_lt : PlacedIn t a i → i < pool_rows t
+  row_lt (near l x f e) = l
+  row_lt (along f h) =
+      omega (arith, linkable_le (pool_rows t), path_lt (links t) (linkable (pool_rows t)) a h.depth i h.is)
+  row_lt (beyond h) = h.scanned.high
+
+  -- it is the address's, if it is not free
+  pub row-own : PlacedIn t a i → 0 < key t i → key t i ≡ suc a
+  row-own (near l x f e) u = e u
+  row-own (along f h) u = by (kind_in (code_at t i)) refl
     where
       by : (k : ℕ) → kind_in (code_at t i) ≡ k → key t i ≡ suc a
       by zero e = absurd (omega (arith, key-free t i e))
       by (suc k) e = key-used t i (λ z. omega arith) ∙ ap suc h.address
-  row-own (untaken f e g h) o u = absurd (omega arith)
-  row-own (beyond g h) o u = h.scanned.ends o u
-
-  -- where it ends at no row, or at a free one, no row has the address
-  pub placed_absent :
-      PlacedAt t a i → {q : List Pooled} → HashHolds (pool_rows t) (key t) (links t) (val t) q →
-      (i < pool_rows t → key t i ≡ 0) → (j : ℕ) → j < pool_rows t → key t j ≡ suc a → ⊥
-  placed_absent (near l x f e) {q} H z j o k =
-      near_absent (pool_rows t) (key t) (links t) (val t) q H a i l x f (z l) j o k
-  placed_absent (along f h) {q} H z j o k =
-      let u : 0 < key t i = path-used (pool_rows t) (key t) (links t) (val t) q H a h.depth i h.is in
-      let l : i < linkable (pool_rows t) = path_lt (links t) (linkable (pool_rows t)) a h.depth i h.is in
-      omega (arith, z (omega (arith, linkable_le (pool_rows t))))
-  placed_absent (untaken f e g h) {q} H z j o k =
-      tree_absent (pool_rows t) (key t) (links t) (val t) q H a g (λ d x p s. h.missed d x p (key-address t x a s)) f h.low
-      (h.free.free h.low) j o k
-  placed_absent (beyond g h) {q} H z j o k =
-      beyond_absent (pool_rows t) (key t) (links t) (val t) q H a g (λ d x p s. h.missed d x p (key-address t x a s)) i
-      h.scanned.passed z h.scanned.low h.scanned.high j o k
+  row-own (beyond h) u = h.scanned.ends u
 
   -- the search comes to the row
   pub placed_reaches :
-      PlacedAt t a i → i < pool_rows t → {q : List Pooled} → HashHolds (pool_rows t) (key t) (links t) (val t) q →
+      PlacedIn t a i → {q : List Pooled} → HashHolds (pool_rows t) (key t) (links t) (val t) q →
       Reaches (pool_rows t) (key t) (links t) a i
-  placed_reaches (near l x f e) o {q} H = reaches-near x f
-  placed_reaches (along f h) o {q} H =
+  placed_reaches (near l x f e) {q} H = reaches-near x f
+  placed_reaches (along f h) {q} H =
       reaches-along h.depth f h.is λ d j l p.
       (path-used (pool_rows t) (key t) (links t) (val t) q H a d j p, λ k. h.before d j l p (key-address t j a k))
-  placed_reaches (untaken f e g h) o {q} H = absurd (omega arith)
-  placed_reaches (beyond f h) o {q} H =
-      reaches-beyond f
-      (λ d j p. (path-used (pool_rows t) (key t) (links t) (val t) q H a d j p, λ k. h.missed d j p (key-address t j a k)))
+  placed_reaches (beyond h) {q} H =
+      reaches-beyond h.missed.near
+      (λ d j p. (path-used (pool_rows t) (key t) (links t) (val t) q H a d j p, λ k. h.missed.path d j p (key-address t j a k)))
       (λ j s. ⊎_elim (λ d. H.taken j d s) (λ d. h.full j d) (le-or-lt (linkable (pool_rows t)) (j + links t 0 1)))
       h.scanned.passed h.scanned.low
 
-module _ (t : List ℕ) (a i : ℕ) (p : PlacedAt t a i) where
-  pub finds-here :
-      (k : ours.Kind) → i < pool_rows t → (kind_in (code_at t i) ≡ 0 → ⊥) → meant_kind k ≡ kind_from (kind_in (code_at t i)) →
-      Finds t a
-      (Some (record { kind = k; stored = record { first = get_or t (4 * i + 2) 0; count = get_or t (4 * i + 3) 0 } }))
-  unfolding val
-  finds-here k l n e =
-      let used : key t i ≡ suc (get_or t (4 * i) 0) = key-used t i n in
-      let own : key t i ≡ suc a = row-own t a i p l (omega (arith, used)) in
-      let is : a ≡ get_or t (4 * i) 0 = omega (arith, used, own) in
-      let f : ℕ = get_or t (4 * i + 2) 0 in
-      let c : ℕ = get_or t (4 * i + 3) 0 in
-      record {
-        found =
-            λ h.
-            ap (λ (x : Kind). Some (pooled a x (rows f c))) e
-            ∙ ap (λ (x : ℕ). Some (pooled x (kind_from (kind_in (code_at t i))) (rows f c))) is
-            ∙ sym ((holds_rows h).here a i l own);
-      }
+-- where it ends at a free row, or at no row, no row has the address
+module _ (t : List ℕ) (a : ℕ) {q : List Pooled} (H : HashHolds (pool_rows t) (key t) (links t) (val t) q) where
+  abbrev Absent : Type 0
+  Absent = (j : ℕ) → j < pool_rows t → key t j ≡ suc a → ⊥
 
-  pub finds-free : kind_in (code_at t i) ≡ 0 → Finds t a None
-  finds-free e =
-      record { found = λ h. sym ((holds_rows h).nowhere a (placed_absent t a i p (holds_rows h) (λ l. key-free t i e))) }
+  missed : Missed t a → (d i : ℕ) → path_at (links t) (linkable (pool_rows t)) a d ≡ suc i → key t i ≡ suc a → ⊥
+  missed m d i p s = m.path d i p (key-address t i a s)
 
-  pub finds_past : pool_rows t ≤ i → Finds t a None
-  finds_past l =
-      record { found = λ h. sym ((holds_rows h).nowhere a (placed_absent t a i p (holds_rows h) (λ o. absurd (omega arith)))) }
+  pub free-absent : (i : ℕ) → PlacedIn t a i → key t i ≡ 0 → Absent
+  free-absent i (near l x f e) z j o k =
+      near_absent (pool_rows t) (key t) (links t) (val t) q H a i l x f z j o k
+  free-absent i (along f h) z j o k =
+      let u : 0 < key t i = path-used (pool_rows t) (key t) (links t) (val t) q H a h.depth i h.is in omega arith
+  free-absent i (beyond h) z j o k =
+      beyond_absent (pool_rows t) (key t) (links t) (val t) q H a h.missed.near (missed h.missed) i
+      h.scanned.passed (λ l. z) h.scanned.low (omega (arith, h.scanned.high)) j o k
+
+  pub untaken-absent : (f : ℕ) → Untaken t a f → Absent
+  untaken-absent f h j o k =
+      tree_absent (pool_rows t) (key t) (links t) (val t) q H a h.missed.near (missed h.missed) f h.free.low h.free.free j o k
+
+  pub full-absent : FarPast t a None → Absent
+  full-absent h j o k =
+      beyond_absent (pool_rows t) (key t) (links t) (val t) q H a h.missed.near (missed h.missed) (pool_rows t)
+      h.scanned (λ l. absurd (omega arith)) (linkable_le (pool_rows t)) (omega arith) j o k
+
+module _ (t : List ℕ) (a : ℕ) where
+  module _ (i : ℕ) (p : PlacedIn t a i) where
+    pub finds-here :
+        (k : ours.Kind) → (kind_in (code_at t i) ≡ 0 → ⊥) → meant_kind k ≡ kind_from (kind_in (code_at t i)) →
+        Finds t a
+        (Some (record { kind = k; stored = record { first = get_or t (4 * i + 2) 0; count = get_or t (4 * i + 3) 0 } }))
+    unfolding val
+    finds-here k n e =
+        let used : key t i ≡ suc (get_or t (4 * i) 0) = key-used t i n in
+        let own : key t i ≡ suc a = row-own t a i p (omega (arith, used)) in
+        let is : a ≡ get_or t (4 * i) 0 = omega (arith, used, own) in
+        let f : ℕ = get_or t (4 * i + 2) 0 in
+        let c : ℕ = get_or t (4 * i + 3) 0 in
+        record {
+          found =
+              λ h.
+              ap (λ (x : Kind). Some (pooled a x (rows f c))) e
+              ∙ ap (λ (x : ℕ). Some (pooled x (kind_from (kind_in (code_at t i))) (rows f c))) is
+              ∙ sym ((holds_rows h).here a i (row_lt t a i p) own);
+        }
+
+    pub finds-free : kind_in (code_at t i) ≡ 0 → Finds t a None
+    finds-free e =
+        record { found = λ h. sym ((holds_rows h).nowhere a (free-absent t a (holds_rows h) i p (key-free t i e))) }
+
+  -- at no row
+  pub finds-nowhere : (s : Spot) → PlacedAt t a s → ((i : ℕ) → s ≡ Row i → ⊥) → Finds t a None
+  finds-nowhere (Row i) p n = absurd (n i refl)
+  finds-nowhere (Tree f) p n = record { found = λ h. sym ((holds_rows h).nowhere a (untaken-absent t a (holds_rows h) f p)) }
+  finds-nowhere Full p n = record { found = λ h. sym ((holds_rows h).nowhere a (full-absent t a (holds_rows h) p)) }
 
 -- nothing is found in a cleared table
 none_found : (a : ℕ) (r : Option our.Pooled) → meant_found a r ≡ None → r ≡ None

@@ -1,12 +1,16 @@
 -- The pool in a lent table: a row near its address's home, or in a tree that goes by the address's bits. What `Represents` says is for
 -- the laws of this crate; callers carry it along. Definitions only.
 use Rattle.std.specs.Prelude.{ℕ, zero, suc, ◌+◌, ◌*◌, ◌/◌, ◌%◌, ◌-◌, ◌≤◌, ◌<◌, ◌≡◌, Bool, true, false, cond, List, ltb, eqb, length, get_or, set}
-use Rattle.std.specs.Prelude.{None, Some}
+use Rattle.std.specs.Prelude.{Option, None, Some}
 use Rattle.format.specs.Tables.{rows, Pooled, pooled, find}
 use Rattle.blocks.specs.Kinds.{kind_from, kind_code}
 use Rattle.blocks.specs.Tree.{kind_in, link_in, with_kind, with_link, linkable, side_at, path_at, EndsBehind}
+use Rattle.blocks.specs.declared.tree.Side.{Side}
+use Rattle.blocks.specs.declared.tree.Side.TheVariants.{Left, Right}
 use Rattle.blocks.specs.declared.tree.Ended.{Ended}
 use Rattle.blocks.specs.declared.tree.Ended.TheVariants.{At, Behind}
+use Rattle.blocks.specs.declared.pool.Spot.{Spot}
+use Rattle.blocks.specs.declared.pool.Spot.TheVariants.{Row, Tree, Full}
 
 -- ---- the rows of a table
 
@@ -98,11 +102,16 @@ pub record EndsAt (t : List ℕ) (a i : ℕ) (r : Bool) : Type 0 where
   pub here : r ≡ true → 0 < key t i → key t i ≡ suc a
   pub past : r ≡ false → Other (key t) a i
 
-pub record Scanned (t : List ℕ) (a from to r : ℕ) : Type 0 where
-  pub low : from ≤ r
-  pub high : r ≤ to
-  pub passed : (i : ℕ) → from ≤ i → i < r → Other (key t) a i
-  pub ends : r < to → 0 < key t r → key t r ≡ suc a
+-- row i is the first of `from` .. `to` that is free or has the address a
+pub record FirstAt (t : List ℕ) (a from to i : ℕ) : Type 0 where
+  pub low : from ≤ i
+  pub high : i < to
+  pub passed : (k : ℕ) → from ≤ k → k < i → Other (key t) a k
+  pub ends : 0 < key t i → key t i ≡ suc a
+
+abbrev pub Scanned : List ℕ → ℕ → ℕ → ℕ → Option ℕ → Type 0
+Scanned t a from to (Some i) = FirstAt t a from to i
+Scanned t a from to None = (k : ℕ) → from ≤ k → k < to → Other (key t) a k
 
 -- every row near the home of a is another address's
 abbrev pub NearPassed : List ℕ → ℕ → Type 0
@@ -128,49 +137,69 @@ pub record PathLeft (t : List ℕ) (a at s : ℕ) : Type 0 where
   pub ends : EndsBehind (links t) (linkable (pool_rows t)) a depth at s
   pub before : PathPassed t a depth
 
+-- the left is 0, the right 1
+abbrev pub side_number : Side → ℕ
+side_number Left = 0
+side_number Right = 1
+
 -- what a path's end tells, by its cases
 abbrev pub EndOf : List ℕ → ℕ → Ended → Type 0
 EndOf t a (At i) = PathFound t a i
-EndOf t a (Behind at s) = PathLeft t a at s
+EndOf t a (Behind at s) = PathLeft t a at (side_number s)
 
 pub record PathEnds (t : List ℕ) (a : ℕ) (r : Ended) : Type 0 where
   pub end : EndOf t a r
 
--- r is the highest free row of those that can be linked, of those not known to be taken; or there is none, and r is how many can be
+-- r is the highest free row of those that can be linked, of those not known to be taken
 pub record FreeAt (t : List ℕ) (r : ℕ) : Type 0 where
-  pub high : r ≤ linkable (pool_rows t)
-  pub free : r < linkable (pool_rows t) → key t r ≡ 0
+  pub low : r < linkable (pool_rows t)
+  pub free : key t r ≡ 0
   pub above : (i : ℕ) → r < i → i + links t 0 1 < linkable (pool_rows t) → 0 < key t i
-  pub none : linkable (pool_rows t) ≤ r → (i : ℕ) → i + links t 0 1 < linkable (pool_rows t) → 0 < key t i
+
+-- none of them is free
+abbrev pub NoneFree : List ℕ → Type 0
+NoneFree t = (i : ℕ) → i + links t 0 1 < linkable (pool_rows t) → 0 < key t i
+
+abbrev pub FreeFound : List ℕ → Option ℕ → Type 0
+FreeFound t (Some r) = FreeAt t r
+FreeFound t None = NoneFree t
 
 -- no row of the path of a holds it
 abbrev pub PathMissed : List ℕ → ℕ → Type 0
 PathMissed t a = (d i : ℕ) → path_in t a d ≡ suc i → get_or t (4 * i) 0 ≡ a → ⊥
 
--- no row of the path of a holds it, and f is the free row that the tree takes
-pub record FarFree (t : List ℕ) (a f : ℕ) : Type 0 where
-  pub low : f < linkable (pool_rows t)
-  pub free : FreeAt t f
-  pub missed : PathMissed t a
+-- every row near the home of a is another's, and no row of its path holds it
+pub record Missed (t : List ℕ) (a : ℕ) : Type 0 where
+  pub near : NearPassed t a
+  pub path : PathMissed t a
 
--- no row of the path of a holds it, and no row that can be linked is free: r is the first behind them that is free or holds a
-pub record FarPast (t : List ℕ) (a r : ℕ) : Type 0 where
-  pub missed : PathMissed t a
-  pub full : (i : ℕ) → i + links t 0 1 < linkable (pool_rows t) → 0 < key t i
+-- and r tells the first row behind those that can be linked, none of which is free, that is free or holds a
+pub record FarPast (t : List ℕ) (a : ℕ) (r : Option ℕ) : Type 0 where
+  pub missed : Missed t a
+  pub full : NoneFree t
   pub scanned : Scanned t a (linkable (pool_rows t)) (pool_rows t) r
 
--- Where the search for a ends: the number r tells the row.
-pub data PlacedAt (t : List ℕ) (a r : ℕ) : Type 0 where
+-- The search for a ends at row r.
+pub data PlacedIn (t : List ℕ) (a r : ℕ) : Type 0 where
   -- near its home: its own row, or a free one
   near :
       r < pool_rows t → IsNear (pool_rows t) a r → ((i : ℕ) → home_of a (pool_rows t) ≤ i → i < r → Other (key t) a i) →
-      (0 < key t r → key t r ≡ suc a) → PlacedAt t a r
+      (0 < key t r → key t r ≡ suc a) → PlacedIn t a r
   -- its own row in the tree
-  along : NearPassed t a → PathFound t a r → PlacedAt t a r
-  -- at no row of its own, and the tree has the free row f for it
-  untaken : (f : ℕ) → r ≡ suc (pool_rows t + f) → NearPassed t a → FarFree t a f → PlacedAt t a r
-  -- behind the rows that can be linked, none of which is free: its own row, or a free one, or none
-  beyond : NearPassed t a → FarPast t a r → PlacedAt t a r
+  along : NearPassed t a → PathFound t a r → PlacedIn t a r
+  -- behind the rows that can be linked: its own row, or a free one
+  beyond : FarPast t a (Some r) → PlacedIn t a r
+
+-- at no row of its own, and the tree has the free row f for it
+pub record Untaken (t : List ℕ) (a f : ℕ) : Type 0 where
+  pub free : FreeAt t f
+  pub missed : Missed t a
+
+-- where the search for a ends
+abbrev pub PlacedAt : List ℕ → ℕ → Spot → Type 0
+PlacedAt t a (Row i) = PlacedIn t a i
+PlacedAt t a (Tree f) = Untaken t a f
+PlacedAt t a Full = FarPast t a None
 
 -- ---- what storing promises
 

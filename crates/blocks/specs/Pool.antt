@@ -10,6 +10,7 @@ use Rattle.format.specs.Tables.{Kind, Rows, rows, Pooled, pooled, find, replace,
 use Rattle.blocks.specs.Kinds.{meant_kind}
 use Rattle.blocks.specs.Hashed.{Represents, PlacedAt}
 use Rattle.blocks.specs.declared.pool.Pooled as ours
+use Rattle.blocks.specs.declared.pool.Spot.{Spot}
 use Rattle.blocks.specs.declared.pool.Stored.{Stored}
 
 -- a row of the pool by its four words
@@ -69,13 +70,13 @@ pub record Entered (n : ℕ) (p : Pooled) (q : List Pooled) (r : Result (Unit {0
 pub record Stores (p : Pooled) (r : Result (Unit {0}) Refusal) (t₀ t : List ℕ) : Type 0 where
   pub entered : {n : ℕ} {q : List Pooled} → Represents t₀ n q → Entered n p q r t₀ t
 
--- ---- the same at the row i where the search for an address ended
+-- ---- the same where the search for an address ended
 
-pub record FindsAt (t : List ℕ) (i : ℕ) (r : Option ours.Pooled) : Type 0 where
+pub record FindsAt (t : List ℕ) (i : Spot) (r : Option ours.Pooled) : Type 0 where
   pub at : (a : ℕ) → PlacedAt t a i → Finds t a r
 
-pub record FindsAsAt (t : List ℕ) (k : Kind) (i : ℕ) (r : Result (Option Stored) Refusal) : Type 0 where
+pub record FindsAsAt (t : List ℕ) (k : Kind) (i : Spot) (r : Result (Option Stored) Refusal) : Type 0 where
   pub at : (a : ℕ) → PlacedAt t a i → FindsAs t k a r
 
-pub record StoresAt (i : ℕ) (p : Pooled) (r : Result (Unit {0}) Refusal) (t₀ t : List ℕ) : Type 0 where
+pub record StoresAt (i : Spot) (p : Pooled) (r : Result (Unit {0}) Refusal) (t₀ t : List ℕ) : Type 0 where
   pub at : PlacedAt t₀ p.address i → Stores p r t₀ t

@@ -94,7 +94,7 @@ impl<'a> Cursor<'a> {
         self.u32()
     }
 
-    // Three floats as their words, all or none.
+    // Three floats as their words, all or none. (It and `vec4` are two: each gives a struct of named fields, as the Rust does.)
     pub fn vec3(&mut self) -> Words3
         ensures answer { result ≡ read_by words3_at self.old }
         ensures cursor { self.new ≡ taken 12 self.old }

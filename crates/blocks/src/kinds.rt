@@ -56,7 +56,8 @@ impl From<Kind> for u64 {
 }
 
 impl Kind {
-    // The kind that a word stands for; one that is no kind's code stands for the last.
+    // The kind that a word stands for; one that is no kind's code stands for the last. (No TryFrom: a word of a lent pool is any number, and
+    // none of them is an error.)
     #[tactic(auto, unfolding(crate::specs::Kinds::kind_from))]
     pub fn from_code(code: u64) -> Kind
         ensures answer { meant_kind result ≡ kind_from code }
@@ -75,7 +76,7 @@ impl Kind {
         }
     }
 
-    // Whether two are one kind: lists are where both are of matrices, or both of indices.
+    // Whether two are one kind: lists are where both are of matrices, or both of indices. (Not `==`, which tells their tables apart.)
     pub fn same(self, other: Kind) -> bool
         ensures answer { result ≡ same_kind (meant_kind self) (meant_kind other) }
     {

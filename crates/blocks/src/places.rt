@@ -2,8 +2,8 @@
 // lent as its two halves, the system bytes and the graphics bytes.
 ghost use Rattle.std.specs.Prelude.{◌≡◌, length, IfOk};
 ghost use Rattle.format.specs.Refusal.{outcome_by};
-ghost use Rattle.format.specs.Section.{part, array, or_none, spot};
-ghost use Rattle.blocks.specs.Places.{section, section_of, lent, rest, spot_at, Locates};
+ghost use Rattle.format.specs.Section.{part, array, spot};
+ghost use Rattle.blocks.specs.Places.{section_of, lent, rest, spot_at};
 
 use format::Refusal;
 
@@ -71,55 +71,5 @@ impl<'a> Section<'a> {
             return Err(Refusal::PastTheEnd);
         }
         Ok(&half[offset..])
-    }
-}
-
-// Where some bytes stand.
-#[derive(Clone, Copy)]
-pub enum Located {
-    // in the system half, at this offset
-    System(usize),
-    // in the graphics half, at this offset
-    Graphics(usize),
-    // 10 where the address is in neither half, 11 where not all the bytes stand
-    Refused(Refusal),
-}
-
-// Where the n bytes at an address stand, all of which must: refusals 10, then 11. With n = 0 it is the legal cursor, and a half's
-// end is one.
-pub fn locate(sys: &[u8], gfx: &[u8], va: u64, n: usize) -> Located
-    ensures answer { Locates (section sys.now gfx.now) va n result }
-{
-    let half = va / WINDOW;
-    let offset = (va % WINDOW) as usize;
-    if half == SYSTEM {
-        if fields::stands(sys, offset, n) {
-            return Located::System(offset);
-        }
-        return Located::Refused(Refusal::PastTheEnd);
-    }
-    if half == GRAPHICS {
-        if fields::stands(gfx, offset, n) {
-            return Located::Graphics(offset);
-        }
-        return Located::Refused(Refusal::PastTheEnd);
-    }
-    Located::Refused(Refusal::BadAddress)
-}
-
-// The n bytes at an address, as the part of the half that holds them; the empty part where they do not all stand.
-pub fn slice<'a>(sys: &'a [u8], gfx: &'a [u8], va: u64, n: usize) -> &'a [u8]
-    ensures answer { result.now ≡ or_none (part (section sys.now gfx.now) va n) }
-{
-    match locate(sys, gfx, va, n) {
-        Located::System(o) => {
-            let e = o + n;
-            &sys[o..e]
-        }
-        Located::Graphics(o) => {
-            let e = o + n;
-            &gfx[o..e]
-        }
-        Located::Refused(_) => &sys[..0],
     }
 }

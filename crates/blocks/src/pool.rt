@@ -28,6 +28,17 @@ pub struct Pooled {
     pub stored: Stored,
 }
 
+// Where the search for an address ends.
+#[derive(Clone, Copy)]
+pub enum Spot {
+    // at a row: its own, or a free one
+    Row(usize),
+    // at no row, and the tree has this free one for it
+    Tree(usize),
+    // at no row, and none is free
+    Full,
+}
+
 // How many rows are searched from the home on, before the tree.
 const NEAR: usize = 16;
 
@@ -54,10 +65,7 @@ fn near_end(home: usize, rows: usize) -> usize
     requires { home < rows }
     ensures { (home ≤ result) × (result ≤ rows) × (result ≤ home + 16) × ((k : ℕ) → k < home + 16 → k < rows → k < result) }
 {
-    if NEAR < rows - home {
-        return home + NEAR;
-    }
-    rows
+    home + NEAR.min(rows - home)
 }
 
 // Whether a search ends at row i: the row is free or has the address.
@@ -71,65 +79,66 @@ fn ends_at(pool: &[u64], va: u64, i: usize) -> bool
     pool[POOL_WORDS * i] == va
 }
 
-// The first row of `from` .. `to` that is free or has the address, else `to`.
-fn scan(pool: &[u64], va: u64, from: usize, to: usize) -> usize
+// The first row of `from` .. `to` that is free or has the address.
+fn scan(pool: &[u64], va: u64, from: usize, to: usize) -> Option<usize>
     requires { (from ≤ to) × (to ≤ pool_rows pool.now) }
     ensures { Scanned pool.now va from to result }
 {
     for i in from..to {
         if ends_at(pool, va, i) {
-            return i;
+            return Some(i);
         }
     }
-    to
+    None
 }
 
-// Where the search for an address from its home on ends, as `place` says: near the home, in the tree, or behind the rows that a link can
-// lead to. In a table below 32 GiB a link can lead to every row.
-fn search(pool: &[u64], va: u64, h: usize) -> usize
+// Where the search for an address from its home on ends: near the home, in the tree, or behind the rows that a link can lead to. In a table
+// below 32 GiB a link can lead to every row.
+fn search(pool: &[u64], va: u64, h: usize) -> Spot
     requires { (h ≡ home_of va (pool_rows pool.now)) × (h < pool_rows pool.now) }
     ensures { PlacedAt pool.now va result }
 {
     let rows = pool.len() / POOL_WORDS;
-    let e = near_end(h, rows);
-    let i = scan(pool, va, h, e);
-    if i < e {
-        return i;
+    if let Some(i) = scan(pool, va, h, near_end(h, rows)) {
+        return Spot::Row(i);
     }
-    let end = tree::path(pool, va);
-    if let Ended::At(r) = end {
-        return r;
+    if let Ended::At(i) = tree::path(pool, va) {
+        return Spot::Row(i);
     }
-    let linked = tree::linked_rows(rows);
-    let free = tree::free_row(pool);
-    if free < linked {
-        return rows + 1 + free;
+    if let Some(i) = tree::free_row(pool) {
+        return Spot::Tree(i);
     }
-    scan(pool, va, linked, rows)
+    match scan(pool, va, tree::linked_rows(rows), rows) {
+        Some(i) => Spot::Row(i),
+        None => Spot::Full,
+    }
 }
 
-// Where the search for an address ends: its own row, or a free one near its home; else, where the tree has a free row for it, that row
-// behind the number of rows, counted from 1; else the number of rows. One search serves `cached_at` and `put_at`, as long as no other
-// row is stored between them. It looks at 16 rows near the home, and at 65 of the tree at most (specs/Bound.antt); mostly it ends at
-// the home itself, which is asked here, so that the rest is not in the code of every caller.
-pub fn place(pool: &[u64], va: u64) -> usize
+// Where the search for an address ends: at its own row, or a free one near its home; else, where the tree has a free row for it, at that
+// one. One search serves `cached_at` and `put_at`, as long as no other row is stored between them. It looks at 16 rows near the home, and at
+// 65 of the tree at most (specs/Bound.antt); mostly it ends at the home itself, which is asked here, so that the rest is not in the code of
+// every caller.
+pub fn place(pool: &[u64], va: u64) -> Spot
     ensures row { PlacedAt pool.now va result }
 {
     let rows = pool.len() / POOL_WORDS;
     if rows == 0 {
-        return 0;
+        return Spot::Full;
     }
     let h = home(va, rows);
     if ends_at(pool, va, h) {
-        return h;
+        return Spot::Row(h);
     }
     search(pool, va, h)
 }
 
-// What stands in row i, where the search for an address ended.
-fn row_at(pool: &[u64], i: usize) -> Option<Pooled>
-    ensures { FindsAt pool.now i result }
+// What stands where the search for an address ended.
+fn row_at(pool: &[u64], spot: Spot) -> Option<Pooled>
+    ensures { FindsAt pool.now spot result }
 {
+    let Spot::Row(i) = spot else {
+        return None;
+    };
     if i >= pool.len() / POOL_WORDS {
         return None;
     }
@@ -153,11 +162,11 @@ pub fn find(pool: &[u64], va: u64) -> Option<Pooled>
     row_at(pool, place(pool, va))
 }
 
-// What was read as a kind at an address whose search ended at row i; 12 where another kind was.
-pub fn cached_at(pool: &[u64], kind: Kind, i: usize) -> Result<Option<Stored>, Refusal>
-    ensures answer { FindsAsAt pool.now (meant_kind kind) i result }
+// What was read as a kind at an address whose search ended at a spot; 12 where another kind was.
+pub fn cached_at(pool: &[u64], kind: Kind, spot: Spot) -> Result<Option<Stored>, Refusal>
+    ensures answer { FindsAsAt pool.now (meant_kind kind) spot result }
 {
-    match row_at(pool, i) {
+    match row_at(pool, spot) {
         None => Ok(None),
         Some(pooled) if pooled.kind.same(kind) => Ok(Some(pooled.stored)),
         Some(_) => Err(Refusal::OtherKind),
@@ -193,34 +202,32 @@ pub fn put(pool: &mut [u64], va: u64, kind: Kind, stored: Stored) -> Result<(), 
     if rows == 0 {
         return Err(Refusal::TableTooShort);
     }
-    let h = home(va, rows);
-    let r = search(pool, va, h);
-    if r < rows {
-        store(pool, r, va, kind, stored);
-        return Ok(());
+    match search(pool, va, home(va, rows)) {
+        Spot::Row(i) => store(pool, i, va, kind, stored),
+        Spot::Tree(i) => {
+            tree::link(pool, i, va);
+            store(pool, i, va, kind, stored);
+        }
+        Spot::Full => return Err(Refusal::TableTooShort),
     }
-    if r == rows {
-        return Err(Refusal::TableTooShort);
-    }
-    let free = r - rows - 1;
-    tree::link(pool, free, va);
-    store(pool, free, va, kind, stored);
     Ok(())
 }
 
-// Pools what was read at an address whose search ended at i, as `put` does.
+// Pools what was read at an address whose search ended at a spot, as `put` does.
 pub fn put_at(
     pool: &mut [u64],
-    i: usize,
+    spot: Spot,
     va: u64,
     kind: Kind,
     stored: Stored,
 ) -> Result<(), Refusal>
-    ensures table { StoresAt i (pool_row va (meant_kind kind) stored.first stored.count) result pool.old pool.new }
+    ensures table { StoresAt spot (pool_row va (meant_kind kind) stored.first stored.count) result pool.old pool.new }
 {
-    if i < pool.len() / POOL_WORDS {
-        store(pool, i, va, kind, stored);
-        return Ok(());
+    if let Spot::Row(i) = spot {
+        if i < pool.len() / POOL_WORDS {
+            store(pool, i, va, kind, stored);
+            return Ok(());
+        }
     }
     put(pool, va, kind, stored)
 }

@@ -1,6 +1,7 @@
 // The stages of the check behind reading (docs/FORMAT.md, "Lookup and check"): whether the working tables have room, and then chains,
 // indices and matrices. Each stage derives from the bones read into working tables, compares with what was read, and leaves its
 // working tables zero. Counts are of words, buckets or bones; what is absent counts 0.
+// (A table stands beside its count, not cut to it: that so many words stand is known of a reading's tables, and not of any that are lent.)
 #![tactic(auto)]
 
 ghost use Rattle.std.specs.Prelude.{◌≡◌, ◌≤◌, length};

@@ -64,7 +64,10 @@ pub fn begin(
     }
 }
 
-// 21: the chains, where nothing was refused so far. The working tables are zero after it.
+// ---- The three steps: each is a stage, where nothing was refused so far, and else clears the working tables of its own. (No one step takes
+// its stage as a closure: that would hold the tables which the other branch clears.)
+
+// 21: the chains. The working tables are zero after it.
 pub fn chains_step(
     v: Result<Option<usize>, Refusal>,
     tables: &Tables,
@@ -95,7 +98,7 @@ pub fn chains_step(
     v
 }
 
-// 22, then 23: parents and children, where nothing was refused so far. The working tables are zero after it.
+// 22, then 23: parents and children. The working tables are zero after it.
 pub fn indices_step(
     v: Result<Option<usize>, Refusal>,
     tables: &Tables,
@@ -131,7 +134,7 @@ pub fn indices_step(
     v
 }
 
-// 24, then 25: the matrices, where nothing was refused so far. The working tables are zero after it.
+// 24, then 25: the matrices. The working tables are zero after it.
 pub fn matrices_step(
     v: Result<Option<usize>, Refusal>,
     tables: &Tables,

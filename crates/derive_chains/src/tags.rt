@@ -1,19 +1,18 @@
 // `build_bone_tags`: the chains of tags, as rows of two tables (docs/FORMAT.md, "Deriving").
-ghost use Rattle.std.specs.Prelude.{◌≡◌, ◌+◌, ◌*◌, ◌%◌, ◌≤◌, ◌<◌, length};
+ghost use Rattle.std.specs.Prelude.{◌≡◌, ◌+◌, ◌*◌, ◌%◌, ◌≤◌, ◌<◌, length, map};
 ghost use mathlib.Core.List.{flat_map};
 ghost use Rattle.std.proofs.lemmas.List.Edits.{sets};
 ghost use Rattle.format.specs.Chains.{bucket_count};
 ghost use Rattle.format.specs.Deriving.{tags};
 ghost use Rattle.derive_chains.specs.ChainRows.{bucket_rows, entry_rows};
-ghost use Rattle.format.specs.Rows.{entry_words, bones_of};
-ghost use Rattle.rows.specs.Row.{row_at};
-ghost use Rattle.tables.specs.Outcome.{leaves, room_for};
-ghost use Rattle.format.specs.Refusal.{outcome};
+ghost use Rattle.format.specs.Rows.{entry_words, bone_of, bones_of};
+ghost use Rattle.tables.specs.Outcome.{derived, leaves};
+ghost use Rattle.format.specs.Refusal.{outcome, outcome_by};
 ghost use Rattle.derive_chains.specs.Tagging.{tags_hold, tags_result, meant_entry, TagEntered, TagsRoom, Linked};
 
 use crate::buckets::{bucket_count, entry_count};
 use format::{BONE_WORDS, ENTRY_LINK, ENTRY_POSITION, ENTRY_TAG, ENTRY_WORDS, MOST, Refusal};
-use rows::tag_at;
+use rows::{rows_of, tag_at};
 use tables::clear;
 
 // A row of the entries table. `link` is 0 at a chain's end, and otherwise one more than the next entry's row.
@@ -24,21 +23,25 @@ pub struct TagEntry {
     pub link: u32,
 }
 
-// Whether there are few enough bones, in a table that holds them, and room for their chains. 2 goes before 1.
-#[tactic(auto, using(crate::proofs::Counts::entries_le), unfolding(tables::specs::Outcome::derived, crate::specs::Tagging::tags_hold))]
-fn tags_room(bones: usize, n: usize, buckets: usize, entries: usize) -> Result<(), Refusal>
-    ensures answer { outcome result ≡ room_for n (tags_hold n bones buckets entries) }
+// The rows of the first n bones of a table, where they are few enough, and the table holds them and the others their chains. 2 goes before 1.
+#[tactic(auto, using(rows::proofs::Rows::got_bones, crate::proofs::Counts::entries_le), unfolding(tables::specs::Outcome::derived, crate::specs::Tagging::tags_hold))]
+fn tags_room(
+    bones: &[u32],
+    n: usize,
+    buckets: usize,
+    entries: usize,
+) -> Result<&[[u32; BONE_WORDS]], Refusal>
+    ensures answer { outcome_by (λ rows. map bone_of rows.now) result
+        ≡ derived n (tags_hold n (length bones.now) buckets entries) (bones_of n bones.now) }
 {
     if n > MOST {
         return Err(Refusal::TooManyBones);
     }
-    if bones < BONE_WORDS * n
-        || buckets < bucket_count(n)
-        || entries < ENTRY_WORDS * entry_count(n)
-    {
+    let rows = rows_of(bones, n)?;
+    if buckets < bucket_count(n) || entries < ENTRY_WORDS * entry_count(n) {
         return Err(Refusal::TableTooShort);
     }
-    Ok(())
+    Ok(rows)
 }
 
 // Stores an entry as row p.
@@ -61,13 +64,18 @@ fn bucket_of(tag: u16, count: usize) -> usize
     if t < count { t } else { t % count }
 }
 
-// Enters position p: its entry goes in front of its bucket's chain.
-fn enter_tag(bones: &[u32], p: usize, count: usize, buckets: &mut [u32], entries: &mut [u32])
+// Enters position p, whose bone has this row: its entry goes in front of its bucket's chain.
+fn enter_tag(
+    row: &[u32; BONE_WORDS],
+    p: usize,
+    count: usize,
+    buckets: &mut [u32],
+    entries: &mut [u32],
+)
     requires { (p < 65535) × (0 < count) × (count ≤ length buckets.old) × (3 * p + 3 ≤ length entries.old) }
-    ensures rows { TagEntered (row_at bones.now p).tag p count
-        buckets.old entries.old buckets.new entries.new }
+    ensures rows { TagEntered (bone_of row.now).tag p count buckets.old entries.old buckets.new entries.new }
 {
-    let tag = tag_at(bones, p);
+    let tag = tag_at(row, 0);
     let b = bucket_of(tag, count);
     let entry = TagEntry {
         tag: u32::from(tag),
@@ -78,14 +86,14 @@ fn enter_tag(bones: &[u32], p: usize, count: usize, buckets: &mut [u32], entries
     buckets[b] = p as u32 + 1;
 }
 
-// Enters all positions, rising; the tables are zero.
-fn enter_tags(bones: &[u32], n: usize, count: usize, buckets: &mut [u32], entries: &mut [u32])
-    requires { TagsRoom n count buckets.old entries.old }
-    ensures rows { Linked (tags (bones_of n bones.now))
-        buckets.old entries.old buckets.new entries.new }
+// Enters all positions that have an entry, rising; the tables are zero.
+fn enter_tags(bones: &[[u32; BONE_WORDS]], count: usize, buckets: &mut [u32], entries: &mut [u32])
+    requires { TagsRoom (length bones.now) count buckets.old entries.old }
+    ensures rows { Linked (tags (map bone_of bones.now)) buckets.old entries.old buckets.new entries.new }
 {
-    for p in 0..entry_count(n) {
-        enter_tag(bones, p, count, buckets, entries);
+    let entered = &bones[..entry_count(bones.len())];
+    for (p, row) in entered.iter().enumerate() {
+        enter_tag(row, p, count, buckets, entries);
     }
 }
 
@@ -108,11 +116,11 @@ pub fn build_bone_tags(
         ≡ leaves (tags_result n (length bones.now) (length buckets.old) (length entries.old))
         (flat_map entry_words (entry_rows (tags (bones_of n bones.now)))) (length entries.old) }
 {
-    let room = tags_room(bones.len(), n, buckets.len(), entries.len());
+    let room = tags_room(bones, n, buckets.len(), entries.len());
     clear(buckets);
     clear(entries);
-    room?;
+    let rows = room?;
     let count = bucket_count(n);
-    enter_tags(bones, n, count, buckets, entries);
+    enter_tags(rows, count, buckets, entries);
     Ok(count)
 }

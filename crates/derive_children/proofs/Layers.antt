@@ -7,7 +7,7 @@ use mathlib.Core.List.{List, [], ◌∷◌, ◌++◌, flat_map, append-nil, appe
 use lib.ListN.{length, take, drop, replicate, length-append}
 use Rattle.format.specs.Children.{layers, padded, kids, pair_at}
 use Rattle.format.specs.Rows.{laid}
-use Rattle.derive_children.specs.Pile.{rest, piled, Stacked, PushedAt, pile_of, pending_of, Ready}
+use Rattle.derive_children.specs.Pile.{rest, piled, Stacked, PushedAt, pile_of, pending_of, PileTable}
 use Rattle.derive_children.specs.Pile.{TookFour, Layered, entries, Listing}
 use Rattle.derive_children.specs.declared.pile.Four.{Four}
 use Rattle.tables.proofs.Laid.{sets-laid}
@@ -23,7 +23,7 @@ module _ (indices parents t : List ℕ) (top : ℕ) (out : List ℕ) (at : ℕ) 
     (pb : PushedAt t2 (2 * length parents) r2 f.b r3 t3) (pa : PushedAt t3 (2 * length parents) r3 f.a r4 t4)
     (same : length t4 ≡ length t0) where
   k1 : Stacked parents (pile_of parents t1) r1
-  k1 = pd.pushed.stacked parents k.stacked k.words.3
+  k1 = pd.pushed.stacked parents k.pile.stacked k.words.3
 
   k2 : Stacked parents (pile_of parents t2) r2
   k2 = pc.pushed.stacked parents k1 k.words.2
@@ -38,8 +38,11 @@ module _ (indices parents t : List ℕ) (top : ℕ) (out : List ℕ) (at : ℕ) 
   pub layered : Layered indices parents t top out at r4 t4 out'
   layered =
       record {
-        ready = ready-below indices parents t0 t4 k.ready same (λ j l. pa.below j l ∙ pb.below j l ∙ pc.below j l ∙ pd.below j l);
-        stacked = pa.pushed.stacked parents k3 k.words.0;
+        pile =
+            record {
+              ready = ready-below indices parents t0 t4 k.pile.ready same (λ j l. pa.below j l ∙ pb.below j l ∙ pc.below j l ∙ pd.below j l);
+              stacked = pa.pushed.stacked parents k3 k.words.0;
+            };
         most = omega (arith, k.most, pd.pushed.most, pc.pushed.most, pb.pushed.most, pa.pushed.most);
         left =
             pa.pushed.is parents
@@ -88,17 +91,15 @@ pub record Running (indices parents t₀ out₀ : List ℕ) (start : ℕ) (t out
   pub most : top ≤ length parents + 4 * k
   pub stack_same : length t ≡ length t₀
   pub out_same : length out ≡ length out₀
-  pub ready : Ready indices parents t
-  pub stacked : Stacked parents (pile_of parents t) top
+  pub pile : PileTable indices parents t top
   pub table : out ≡ laid rows (length out₀)
   pub is : entries indices parents (suc (length parents)) (pending_of parents t₀ start) ≡ rows
       ++ entries indices parents (suc (length parents) - k) (pending_of parents t top)
 
 pub running_starts :
-    (indices parents t out : List ℕ) (start : ℕ) → Ready indices parents t → Stacked parents (pile_of parents t) start → start ≤
-    length parents → out ≡ replicate (length out) 0
+    (indices parents t out : List ℕ) (start : ℕ) → PileTable indices parents t start → start ≤ length parents → out ≡ replicate (length out) 0
     → Running indices parents t out start t out start 0 0
-running_starts indices parents t out start rd s h z =
+running_starts indices parents t out start p h z =
     record {
       rows = [];
       size = refl;
@@ -107,8 +108,7 @@ running_starts indices parents t out start rd s h z =
       most = omega arith;
       stack_same = refl;
       out_same = refl;
-      ready = rd;
-      stacked = s;
+      pile = p;
       table = z ∙ simp sub-zero;
       is = simp sub-zero;
     }
@@ -117,7 +117,7 @@ module _ (indices parents t₀ out₀ : List ℕ) (start : ℕ) (t out : List �
     t out top at k) where
   pub running_asks : 8 * (length parents + 1) ≤ length out₀ → k ≤ length parents → (2 * length parents + top + 4 ≤ length t)
       × (at + 8 ≤ length out)
-  running_asks b h = (omega (arith, r.most, r.ready.room), omega (arith, r.times, r.out_same))
+  running_asks b h = (omega (arith, r.most, r.pile.ready.room), omega (arith, r.times, r.out_same))
 
   pub running_turns :
       8 * (length parents + 1) ≤ length out₀ → 0 < top → k ≤ length parents → (top' : ℕ) (t'' out' : List ℕ) → length t'' ≡ length t
@@ -126,7 +126,7 @@ module _ (indices parents t₀ out₀ : List ℕ) (start : ℕ) (t out : List �
   running_turns b p h top' t'' out' es eo l =
       let q = pending_of parents t top in
       let new = padded (pair_at indices parents) 4 (pending_of parents t top) in
-      let ne : pending_of parents t top ≡ [] → ⊥ = piled-some indices parents (pile_of parents t) top r.stacked p in
+      let ne : pending_of parents t top ≡ [] → ⊥ = piled-some indices parents (pile_of parents t) top r.pile.stacked p in
       let n8 : length (padded (pair_at indices parents) 4 (pending_of parents t top)) ≡ 8 = length-padded indices parents (pending_of
       parents t top) ne in
       let e : suc (length parents) - k ≡ suc (suc (length parents) - (k + 1)) = omega arith in
@@ -143,8 +143,7 @@ module _ (indices parents t₀ out₀ : List ℕ) (start : ℕ) (t out : List �
         most = omega (arith, r.most, l.most);
         stack_same = es ∙ r.stack_same;
         out_same = eo ∙ r.out_same;
-        ready = l.ready;
-        stacked = l.stacked;
+        pile = l.pile;
         table =
             l.written ∙ rw r.table
             (sets-laid (padded (pair_at indices parents) 4 (pending_of parents t top)) r.rows (length out₀) at r.size

@@ -15,7 +15,7 @@ use Rattle.format.specs.Chains.{keep_if}
 use Rattle.format.specs.Children.{roots, kids, first_pending}
 use Rattle.derive_children.specs.Index.{first_word}
 use Rattle.derive_children.specs.Indexing.{Rooted}
-use Rattle.derive_children.specs.Pile.{rest, piled, Stacked, Pushed, PushedAt, root_word, pile_of, pending_of, Ready}
+use Rattle.derive_children.specs.Pile.{rest, piled, Stacked, Pushed, PushedAt, root_word, pile_of, pending_of, Ready, PileTable}
 use Rattle.derive_children.proofs.Positions.{first_rest, first_bound}
 
 -- ---- stores
@@ -89,8 +89,7 @@ pub record Rooting (indices parents t₀ t : List ℕ) (top r : ℕ) : Type 0 wh
   pub bound : r ≤ length parents
   pub most : top + r ≤ length parents
   pub same : length t ≡ length t₀
-  pub ready : Ready indices parents t
-  pub stacked : Stacked parents (pile_of parents t) top
+  pub pile : PileTable indices parents t top
   pub is : pending_of parents t top ≡ flat_map (kids indices parents) (roots r (drop r parents))
 
 pub stacked-none : (parents stack : List ℕ) → Stacked parents stack 0
@@ -103,8 +102,7 @@ rooting_starts indices parents t rd =
       bound = le_refl (length parents);
       most = omega arith;
       same = refl;
-      ready = rd;
-      stacked = stacked-none parents (pile_of parents t);
+      pile = record { ready = rd; stacked = stacked-none parents (pile_of parents t) };
       is = rw (drop_of_length-le parents {i = length parents} (le_refl (length parents)));
     }
 
@@ -140,7 +138,7 @@ module _ (indices parents t₀ t : List ℕ) (top r : ℕ) (s : Rooting indices 
   rooting_at i w top' t'' e f g p =
       let l : i < length parents = omega (arith, s.bound) in
       let y = get_or t (length parents + i) 0 in
-      let h : get_or t (length parents + i) 0 ≡ first_word (kids indices parents i) = s.ready.firsts i l in
+      let h : get_or t (length parents + i) 0 ≡ first_word (kids indices parents i) = s.pile.ready.firsts i l in
       let n : w ≤ length parents = rw f (pick_bound (negative (get_or parents i 0)) (get_or t (length parents + i) 0) (length parents)
       (kid_bound indices parents i (get_or t (length parents + i) 0) h)) in
       let was : pending_of parents t top ≡ flat_map (kids indices parents) (roots (suc i) (drop (suc i) parents)) = rw e at s.is
@@ -149,8 +147,8 @@ module _ (indices parents t₀ t : List ℕ) (top r : ℕ) (s : Rooting indices 
         bound = omega arith;
         most = omega (arith, s.most, p.pushed.most);
         same = g ∙ s.same;
-        ready = ready-below indices parents t t'' s.ready g p.below;
-        stacked = p.pushed.stacked parents s.stacked n;
+        pile =
+            record { ready = ready-below indices parents t t'' s.pile.ready g p.below; stacked = p.pushed.stacked parents s.pile.stacked n };
         is =
             p.pushed.is parents ∙ ap (λ (x : List ℕ). rest parents w ++ x) was
             ∙ rw (f, roots_cons parents i l)
@@ -169,4 +167,4 @@ module _ (indices parents t₀ t : List ℕ) (top r : ℕ) (s : Rooting indices 
   unfolding first_pending
   rooting_ends h =
       let e : r ≡ 0 = omega arith in
-      record { ready = s.ready; stacked = s.stacked; most = omega (arith, s.most); pending = rw e at s.is }
+      record { pile = s.pile; most = omega (arith, s.most); pending = rw e at s.is }

@@ -8,7 +8,7 @@ use lib.ListN.{length, get_or, take, drop, set, length-drop}
 use lib.Seq.{sets, get_or-drop}
 use Rattle.format.specs.Children.{padded, kids, pair_at}
 use Rattle.derive_children.specs.Index.{first_word, positions_from}
-use Rattle.derive_children.specs.Pile.{rest, piled, Stacked, PushedAt, pile_of, pending_of, front_word, front_bone, Ready}
+use Rattle.derive_children.specs.Pile.{rest, piled, Stacked, PushedAt, pile_of, pending_of, front_word, front_bone, Ready, PileTable}
 use Rattle.derive_children.specs.Pile.{head_or, tail_of, head_kids, Took, TookFour}
 use Rattle.derive_children.specs.declared.pile.One.{One}
 use Rattle.derive_children.proofs.Positions.{first_rest, first_bound}
@@ -65,22 +65,20 @@ pub record Front (parents t : List ℕ) (top : ℕ) : Type 0 where
   pub room : 8 * (length parents + 1) ≤ length t
 
 pub front_known :
-    {indices parents t : List ℕ} {top : ℕ} → Ready indices parents t → Stacked parents (pile_of parents t) top → (top ≡ 0 → ⊥)
-    → Front parents t top
-front_known {parents = parents} {t = t} {top = top} rd s ne =
-    let h = front-inside parents t top s ne in
-    record { some = omega arith; inside = h.0; solid = h.1; pile = pile_room parents t top s ne; room = rd.room }
+    {indices parents t : List ℕ} {top : ℕ} → PileTable indices parents t top → (top ≡ 0 → ⊥) → Front parents t top
+front_known {parents = parents} {t = t} {top = top} p ne =
+    let h = front-inside parents t top p.stacked ne in
+    record { some = omega arith; inside = h.0; solid = h.1; pile = pile_room parents t top p.stacked ne; room = p.ready.room }
 
-module _ (indices parents t : List ℕ) (top last : ℕ) (out : List ℕ) (at : ℕ) (rd : Ready indices parents t) (s : Stacked parents
-    (pile_of parents t) top) where
+module _ (indices parents t : List ℕ) (top last : ℕ) (out : List ℕ) (at : ℕ) (pile : PileTable indices
+    parents t top) where
   pub took_none :
       (out' : List ℕ) → last < length parents → top ≡ 0 → out' ≡ sets out at (pair_at indices parents last)
       → Took indices parents t top last out at (record { bone = last; kid = 0; top = 0 }) t out'
   unfolding piled tail_of head_or head_kids rest
   took_none out' l e w =
       record {
-        ready = rd;
-        stacked = stacked-none parents (pile_of parents t);
+        pile = record { ready = pile.ready; stacked = stacked-none parents (pile_of parents t) };
         most = omega arith;
         left = rw e;
         inside = l;
@@ -101,14 +99,17 @@ module _ (indices parents t : List ℕ) (top last : ℕ) (out : List ℕ) (at : 
         let et : top ≡ suc (top - 1) = omega arith in
         let f : pending_of parents t top ≡ b ∷ (positions_from parents (get_or parents b 0) (suc b) ++ pending_of parents t (top - 1)) =
         piled-front parents (pile_of parents t) top (top - 1) b et e in
-        let nx : get_or t b 0 ≡ first_word (positions_from parents (get_or parents b 0) (suc b)) = rd.nexts b l in
+        let nx : get_or t b 0 ≡ first_word (positions_from parents (get_or parents b 0) (suc b)) = pile.ready.nexts b l in
         let rx : rest parents (get_or t b 0) ≡ positions_from parents (get_or parents b 0) (suc b) = rw nx (first_rest parents (get_or parents b
         0) (suc b)) in
         let nb : get_or t b 0 ≤ length parents = rw nx (first_bound parents (get_or parents b 0) (suc b) l) in
-        let rd' : Ready indices parents t'' = ready-below indices parents t t'' rd same p.below in
+        let rd' : Ready indices parents t'' = ready-below indices parents t t'' pile.ready same p.below in
         record {
-          ready = rd';
-          stacked = p.pushed.stacked parents (stacked_less parents (pile_of parents t) top (top - 1) (omega arith) s) nb;
+          pile =
+              record {
+                ready = rd';
+                stacked = p.pushed.stacked parents (stacked_less parents (pile_of parents t) top (top - 1) (omega arith) pile.stacked) nb;
+              };
           most = omega (arith, p.pushed.most);
           left = p.pushed.is parents ∙ rw (rx, f);
           inside = l;
@@ -125,7 +126,7 @@ module _ (indices parents t : List ℕ) (top last : ℕ) (out : List ℕ) (at : 
         (record { bone = front_bone parents t top; kid = get_or t'' (length parents + (front_bone parents t top)) 0; top = left' }) t''
         out'
     took_one left' p w =
-        let h = front-inside parents t top s some in
+        let h = front-inside parents t top pile.stacked some in
         let e : get_or (pile_of parents t) (top - 1) 0 ≡ suc (front_bone parents t top) = front_word_lem parents t top some ∙ omega
         (arith, h.1) in
         took_at (front_bone parents t top) left' h.0 e p w
@@ -195,7 +196,7 @@ module _ (indices parents : List ℕ) where
       let z : ◌≡◌ {A = ℕ} 0 1 = cc in
       omega arith
 
-  module _ (t : List ℕ) (top : ℕ) (out : List ℕ) (at : ℕ) (s : Stacked parents (pile_of parents t) top) (h : 0 < top)
+  module _ (t : List ℕ) (top : ℕ) (out : List ℕ) (at : ℕ) (pile : PileTable indices parents t top) (h : 0 < top)
       (A B C D : One) (s1 s2 s3 s4 o1 o2 o3 o4 : List ℕ)
       (ta : Took indices parents t top 0 out at A s1 o1)
       (tb : Took indices parents s1 A.top A.bone o1 (at + 2) B s2 o2)
@@ -228,7 +229,7 @@ module _ (indices parents : List ℕ) where
         td.written ∙ rw (b4, tc.written, b3, tb.written, b2, ta.written)
         (sets_four out at (head_or 0 (pending_of parents t top)) (bone2 0 (pending_of parents t top)) (bone3 0 (pending_of parents t
         top)) (bone4 0 (pending_of parents t top))
-        ∙ ap (sets out at) (four_pairs (pair_at indices parents) 0 (pending_of parents t top) (piled-some (pile_of parents t) top s
+        ∙ ap (sets out at) (four_pairs (pair_at indices parents) 0 (pending_of parents t top) (piled-some (pile_of parents t) top pile.stacked
         h)))
 
     fronts : rest parents A.kid ++ (rest parents B.kid ++ (rest parents C.kid ++ rest parents D.kid))
@@ -244,8 +245,7 @@ module _ (indices parents : List ℕ) where
     }) s4 o4
     took_four =
         record {
-          ready = td.ready;
-          stacked = td.stacked;
+          pile = td.pile;
           most = omega (arith, ta.most, tb.most, tc.most, td.most);
           left = td.left ∙ ap tail_of q3 ∙ four_left (pending_of parents t top);
           words = (ta.word, tb.word, tc.word, td.word);

@@ -1,13 +1,13 @@
 -- `build_indices`: its sizes, its answer, and what its stages leave. Definitions only.
-use Rattle.std.specs.Prelude.{ℕ, ◌+◌, ◌*◌, ◌≤◌, ◌≡◌, Bool, ◌&&◌, List, Result, length, leb}
+use Rattle.std.specs.Prelude.{ℕ, ◌+◌, ◌*◌, ◌≤◌, ◌≡◌, Bool, ◌&&◌, List, Result, length, map, leb}
 use Rattle.format.specs.Result.{Res}
 use Rattle.format.specs.Refusal.{outcome}
 use Rattle.format.specs.declared.Refusal.{Refusal}
 use Rattle.format.specs.Children.{first_pending, children}
 use Rattle.format.specs.Deriving.{indices, parents}
-use Rattle.format.specs.Rows.{bone_width, bones_of, cleared}
+use Rattle.format.specs.Rows.{bone_width, bone_of, bones_of, cleared}
 use Rattle.tables.specs.Outcome.{derived, leaves}
-use Rattle.derive_children.specs.Pile.{Ready, Stacked, pile_of, pending_of}
+use Rattle.derive_children.specs.Pile.{PileTable, pending_of}
 
 -- ---- sizes and answer
 
@@ -40,14 +40,13 @@ pub record Indexing (n : ℕ) (t ps cs pending : List ℕ) (r : Result ℕ Refus
 
 -- ---- stages
 
--- the indices of as many bones as there are parents
-unfoldable pub indices_for : List ℕ → List ℕ → List ℕ
-indices_for t ps = indices (bones_of (length ps) t)
+-- the indices of the bones in some rows
+abbrev pub indices_of : List (List ℕ) → List ℕ
+indices_of rows = indices (map bone_of rows)
 
 -- the pile holds the pending list at first, in at most one word for each bone
 pub record Rooted (is ps : List ℕ) (top : ℕ) (t : List ℕ) : Type 0 where
-  pub ready : Ready is ps t
-  pub stacked : Stacked ps (pile_of ps t) top
+  pub pile : PileTable is ps t top
   pub most : top ≤ length ps
   pub pending : pending_of ps t top ≡ first_pending is ps
 

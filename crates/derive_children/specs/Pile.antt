@@ -64,6 +64,11 @@ pub record Ready (indices parents t : List ℕ) : Type 0 where
   pub firsts : (b : ℕ) → b < length parents → get_or t (length parents + b) 0 ≡ first_word (kids indices parents b)
   pub nexts : (j : ℕ) → j < length parents → get_or t j 0 ≡ first_word (positions_from parents (get_or parents j 0) (suc j))
 
+-- the table has a pile of `top` words, and what taking from it needs
+pub record PileTable (indices parents t : List ℕ) (top : ℕ) : Type 0 where
+  pub ready : Ready indices parents t
+  pub stacked : Stacked parents (pile_of parents t) top
+
 -- the first of a list, or the last one again where there is none
 unfoldable pub head_or : ℕ → List ℕ → ℕ
 head_or b [] = b
@@ -80,8 +85,7 @@ head_kids f (x ∷ xs) = f x
 
 -- one bone taken from the pile and its pair written at `at`
 pub record Took (indices parents t : List ℕ) (top last : ℕ) (out : List ℕ) (at : ℕ) (r : One) (t'' out' : List ℕ) : Type 0 where
-  pub ready : Ready indices parents t''
-  pub stacked : Stacked parents (pile_of parents t'') r.top
+  pub pile : PileTable indices parents t'' r.top
   pub most : r.top ≤ top
   pub left : pending_of parents t'' r.top ≡ tail_of (pending_of parents t top)
   pub inside : r.bone < length parents
@@ -92,8 +96,7 @@ pub record Took (indices parents t : List ℕ) (top last : ℕ) (out : List ℕ)
 
 -- four taken
 pub record TookFour (indices parents t : List ℕ) (top : ℕ) (out : List ℕ) (at : ℕ) (r : Four) (t'' out' : List ℕ) : Type 0 where
-  pub ready : Ready indices parents t''
-  pub stacked : Stacked parents (pile_of parents t'') r.top
+  pub pile : PileTable indices parents t'' r.top
   pub most : r.top ≤ top
   pub left : pending_of parents t'' r.top ≡ drop 4 (pending_of parents t top)
   pub words : (r.a ≤ length parents) × (r.b ≤ length parents) × (r.c ≤ length parents) × (r.d ≤ length parents)
@@ -103,8 +106,7 @@ pub record TookFour (indices parents t : List ℕ) (top : ℕ) (out : List ℕ) 
 
 -- one layer left, and its children stand in front of the rest
 pub record Layered (indices parents t : List ℕ) (top : ℕ) (out : List ℕ) (at r : ℕ) (t'' out' : List ℕ) : Type 0 where
-  pub ready : Ready indices parents t''
-  pub stacked : Stacked parents (pile_of parents t'') r
+  pub pile : PileTable indices parents t'' r
   pub most : r ≤ top + 4
   pub left : pending_of parents t'' r
       ≡ flat_map (kids indices parents) (take 4 (pending_of parents t top)) ++ drop 4 (pending_of parents t top)

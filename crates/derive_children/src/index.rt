@@ -7,8 +7,9 @@ ghost use Rattle.format.specs.Children.{positions};
 ghost use Rattle.format.specs.Rows.{cleared};
 ghost use Rattle.derive_children.specs.Index.{LinkedFrom, Sought, IndexTable, first_word, link_at};
 ghost use Rattle.derive_children.specs.Pile.{Ready};
-ghost use Rattle.derive_children.specs.Indexing.{indices_for};
+ghost use Rattle.derive_children.specs.Indexing.{indices_of};
 
+use crate::bones::Bones;
 use rows::index_at;
 
 // The word of the first along the links from `from` whose parent is v. (A `while`: the links are followed to their end, and not counted.)
@@ -75,24 +76,22 @@ fn first_child(parents: &[u16], t: &[u32], v: u16) -> u32
 }
 
 // Each bone's first child, from the index of all positions.
-fn first_children(bones: &[u32], parents: &[u16], t: &mut [u32])
-    requires { IndexTable parents.now t.old 0 }
-    ensures rows { Ready (indices_for bones.now parents.now) parents.now
-        t.new }
+fn first_children(bones: Bones, t: &mut [u32])
+    requires { IndexTable bones.parents.now t.old 0 }
+    ensures rows { Ready (indices_of bones.entry.rows.now) bones.entry.parents.now t.new }
 {
-    let n = parents.len();
-    for b in 0..n {
-        t[n + b] = first_child(parents, t, index_at(bones, b));
+    let n = bones.parents.len();
+    for (b, row) in bones.rows.iter().enumerate() {
+        t[n + b] = first_child(bones.parents, t, index_at(row, 0));
     }
 }
 
 // Each position's next sibling and each bone's first child; the table is zero.
-pub(crate) fn index_children(bones: &[u32], parents: &[u16], t: &mut [u32])
-    requires { (8 * (length parents.now + 1) ≤ length t.old) × (length parents.now ≤ 65535)
+pub(crate) fn index_children(bones: Bones, t: &mut [u32])
+    requires { (8 * (length bones.parents.now + 1) ≤ length t.old) × (length bones.parents.now ≤ 65535)
         × (t.old ≡ cleared (length t.old)) }
-    ensures rows { Ready (indices_for bones.now parents.now) parents.now
-        t.new }
+    ensures rows { Ready (indices_of bones.entry.rows.now) bones.entry.parents.now t.new }
 {
-    enter_all(parents, t);
-    first_children(bones, parents, t);
+    enter_all(bones.parents, t);
+    first_children(bones, t);
 }

@@ -1,61 +1,65 @@
 // `build_indices`: the parents list and the child list (docs/FORMAT.md, "Deriving"), in time that grows with the number of bones
 // alone.
-ghost use Rattle.std.specs.Prelude.{◌≡◌, ◌+◌, ◌*◌, ◌≤◌, ◌<◌, length};
+ghost use Rattle.std.specs.Prelude.{◌≡◌, ◌+◌, ◌*◌, ◌≤◌, ◌<◌, length, map};
 ghost use Rattle.format.specs.Children.{children};
-ghost use Rattle.format.specs.Refusal.{outcome};
-ghost use Rattle.format.specs.Rows.{laid, cleared};
-ghost use Rattle.tables.specs.Outcome.{leaves, room_for};
+ghost use Rattle.format.specs.Deriving.{parents};
+ghost use Rattle.format.specs.Refusal.{outcome, outcome_by};
+ghost use Rattle.format.specs.Rows.{laid, cleared, bone_of, bones_of};
+ghost use Rattle.tables.specs.Outcome.{leaves, derived};
 ghost use Rattle.derive_children.specs.Pile.{Listing};
-ghost use Rattle.derive_children.specs.Indexing.{indices_hold, indices_result, parents_of, children_of, indices_for};
+ghost use Rattle.derive_children.specs.Indexing.{indices_hold, indices_result, parents_of, children_of, indices_of};
 ghost use Rattle.derive_children.specs.Indexing.{Indexing, ListRoom};
 
+use crate::bones::Bones;
 use crate::index::index_children;
 use crate::pile::{push_roots, put_layers};
 use format::{BONE_WORDS, MOST, Refusal};
-use rows::parent_at;
+use rows::{parent_at, rows_of};
 use tables::clear;
 
-// Whether there are few enough bones, in a table that holds them, and room for the lists and the work. 2 goes before 1.
-#[tactic(auto, unfolding(tables::specs::Outcome::derived, crate::specs::Indexing::indices_hold))]
+// The rows of the first n bones of a table, where they are few enough, and the table holds them and the others the lists and the work. 2 goes
+// before 1.
+#[tactic(auto, using(rows::proofs::Rows::got_bones), unfolding(tables::specs::Outcome::derived, crate::specs::Indexing::indices_hold))]
 fn indices_room(
-    bones: usize,
+    bones: &[u32],
     n: usize,
     parents: usize,
     children: usize,
     pending: usize,
-) -> Result<(), Refusal>
-    ensures answer { outcome result ≡ room_for n (indices_hold n bones parents children pending) }
+) -> Result<&[[u32; BONE_WORDS]], Refusal>
+    ensures answer { outcome_by (λ rows. map bone_of rows.now) result
+        ≡ derived n (indices_hold n (length bones.now) parents children pending) (bones_of n bones.now) }
 {
     if n > MOST {
         return Err(Refusal::TooManyBones);
     }
-    if bones < BONE_WORDS * n || parents < n || children < 8 * (n + 1) || pending < 8 * (n + 1) {
+    let rows = rows_of(bones, n)?;
+    if parents < n || children < 8 * (n + 1) || pending < 8 * (n + 1) {
         return Err(Refusal::TableTooShort);
     }
-    Ok(())
+    Ok(rows)
 }
 
 // The parents list; the table is zero.
-fn put_parents(bones: &[u32], n: usize, out: &mut [u16])
-    requires { (n ≤ length out.old) × (out.old ≡ cleared (length out.old)) }
-    ensures rows { out.new ≡ laid (parents_of n bones.now) (length out.old) }
+fn put_parents(rows: &[[u32; BONE_WORDS]], out: &mut [u16])
+    requires { (length rows.now ≤ length out.old) × (out.old ≡ cleared (length out.old)) }
+    ensures rows { out.new ≡ laid (parents (map bone_of rows.now)) (length out.old) }
 {
-    for p in 0..n {
-        out[p] = parent_at(bones, p);
+    for (p, row) in rows.iter().enumerate() {
+        out[p] = parent_at(row, 0);
     }
 }
 
-// The child list of the parents given, in a table that is zero. Gives the number of entries.
+// The child list, in a table that is zero. Gives the number of entries.
 #[tactic(auto, unfolding(format::specs::Children::children, crate::specs::Pile::entries))]
-fn put_children(bones: &[u32], parents: &[u16], pending: &mut [u32], out: &mut [u16]) -> usize
-    requires { ListRoom parents.now pending.old out.old }
-    ensures answer { Listing (children (indices_for bones.now parents.now) parents.now)
-        result out.old out.new }
+fn put_children(bones: Bones, pending: &mut [u32], out: &mut [u16]) -> usize
+    requires { ListRoom bones.parents.now pending.old out.old }
+    ensures answer { Listing (children (indices_of bones.entry.rows.now) bones.entry.parents.now) result out.old out.new }
 {
     clear(pending);
-    index_children(bones, parents, pending);
-    let start = push_roots(bones, parents, pending);
-    put_layers(bones, parents, pending, out, start)
+    index_children(bones, pending);
+    let start = push_roots(bones, pending);
+    put_layers(bones, pending, out, start)
 }
 
 // The two lists, or a refusal; the working table is left as it may be.
@@ -70,12 +74,16 @@ fn attempt(
     ensures answer { Indexing n bones.now parents.old children.old pending.old
         result parents.new children.new }
 {
-    let room = indices_room(bones.len(), n, parents.len(), children.len(), pending.len());
+    let room = indices_room(bones, n, parents.len(), children.len(), pending.len());
     clear(parents);
     clear(children);
-    room?;
-    put_parents(bones, n, parents);
-    let count = put_children(bones, &parents[..n], pending, children);
+    let rows = room?;
+    put_parents(rows, parents);
+    let bones = Bones {
+        rows,
+        parents: &parents[..n],
+    };
+    let count = put_children(bones, pending, children);
     Ok(count)
 }
 

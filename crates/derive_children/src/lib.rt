@@ -2,6 +2,7 @@
 // table; no call needs other memory.
 #![tactic(auto)]
 
+mod bones; // the rows of the bones with their parents
 mod index; // the bones by parent
 mod pile; // the pending list
 pub mod indices; // `build_indices`

@@ -4,14 +4,13 @@ use Prim.Native.Nat.{ℕ, zero, suc, ◌+◌, ◌-◌, ◌*◌, ◌≤◌, ◌<�
 use native.Mathlib.Omega.{arith}
 use mathlib.Core.Path.{◌≡◌, refl, sym, ap, ◌∙◌}
 use mathlib.Core.Logic.{◌≢◌}
-use mathlib.Core.List.{List, [], ◌∷◌}
+use mathlib.Core.List.{List, [], ◌∷◌, map}
 use lib.ListN.{length, get_or, set, length-set}
 use lib.Seq.{get_or-set_same, get_or-set_other}
 use lib.Ieee.{Float, nan}
 use Rattle.math.specs.Vector.{vec3, vec4}
 use Rattle.format.specs.Matrices.{Pose, climb, walk}
-use Rattle.format.specs.Rows.{bones_of}
-use Rattle.rows.specs.Row.{row_at}
+use Rattle.format.specs.Rows.{bone_of}
 use Rattle.derive_matrices.specs.declared.walk.Joint.{Joint}
 use Rattle.derive_matrices.specs.declared.walk.Four.{Four}
 use Rattle.derive_matrices.specs.Walking.{joint_of, own_pose, climber_pose, Climb}
@@ -111,70 +110,70 @@ pub record Raising (parents s₀ s : List Float) (i : ℕ) : Type 0 where
 -- ---- the walks of four bones
 
 -- where the walk of the pose in lane i goes on from, and where it is to end
-pub record LaneWalk (t : List ℕ) (n steps : ℕ) (s₀ s : List Float) (i p₀ p : ℕ) : Type 0 where
-  pub ends : walk (bones_of n t) (n - steps) p (lane_of s i) ≡ walk (bones_of n t) n p₀ (lane_of s₀ i)
+pub record LaneWalk (rows : List (List ℕ)) (steps : ℕ) (s₀ s : List Float) (i p₀ p : ℕ) : Type 0 where
+  pub ends : walk (map bone_of rows) (length rows - steps) p (lane_of s i) ≡ walk (map bone_of rows) (length rows) p₀ (lane_of s₀ i)
 
 -- all four, in s, with parents p, q, r and u to go to next
-pub record FourWalks (t : List ℕ) (n steps : ℕ) (s₀ s : List Float) (p₀ q₀ r₀ u₀ p q r u : ℕ) : Type 0 where
+pub record FourWalks (rows : List (List ℕ)) (steps : ℕ) (s₀ s : List Float) (p₀ q₀ r₀ u₀ p q r u : ℕ) : Type 0 where
   pub size : length s ≡ 28
-  pub first : LaneWalk t n steps s₀ s 0 p₀ p
-  pub second : LaneWalk t n steps s₀ s 1 q₀ q
-  pub third : LaneWalk t n steps s₀ s 2 r₀ r
-  pub fourth : LaneWalk t n steps s₀ s 3 u₀ u
+  pub first : LaneWalk rows steps s₀ s 0 p₀ p
+  pub second : LaneWalk rows steps s₀ s 1 q₀ q
+  pub third : LaneWalk rows steps s₀ s 2 r₀ r
+  pub fourth : LaneWalk rows steps s₀ s 3 u₀ u
 
 -- a step by a parent's own pose is a step of the walk
-raise_climb : (t : List ℕ) (p : ℕ) (j : Joint) (s : Pose) → j ≡ joint_of (row_at t p) → raised (own_pose j) s ≡ climb (row_at t p) s
+raise_climb : (w : List ℕ) (j : Joint) (s : Pose) → j ≡ joint_of (bone_of w) → raised (own_pose j) s ≡ climb (bone_of w) s
 unfolding raised climb
-raise_climb t p j s e = rw e refl
+raise_climb w j s e = rw e refl
 
 -- a step of the pose in lane i
 lane_turn :
-    (t : List ℕ) (n steps : ℕ) (parents s₀ s s' : List Float) (i p₀ p : ℕ) (j : Joint) → steps < n → i < 4 → Climb n p
-    → j ≡ joint_of (row_at t p) → lane_of parents i ≡ own_pose j → LanesRaised parents s s' → LaneWalk t n steps s₀ s i p₀ p
-    → LaneWalk t n (steps + 1) s₀ s' i p₀ j.parent
-lane_turn t n steps parents s₀ s s' i p₀ p j l h c ej ep up w =
-    let e : lane_of s' i ≡ climb (row_at t p) (lane_of s i) =
-    up i h ∙ ap (λ (o : Pose). raised o (lane_of s i)) ep ∙ raise_climb t p j (lane_of s i) ej in
-    record { ends = rw (e, ej) (sym (walk_up t n p (lane_of s i) steps c.0 c.1 l) ∙ w.ends) }
+    (rows : List (List ℕ)) (steps : ℕ) (parents s₀ s s' : List Float) (i p₀ p : ℕ) (j : Joint) → steps < length rows → i < 4 → Climb (length rows) p
+    → j ≡ joint_of (bone_of (get_or rows p [])) → lane_of parents i ≡ own_pose j → LanesRaised parents s s' → LaneWalk rows steps s₀ s i p₀ p
+    → LaneWalk rows (steps + 1) s₀ s' i p₀ j.parent
+lane_turn rows steps parents s₀ s s' i p₀ p j l h c ej ep up w =
+    let e : lane_of s' i ≡ climb (bone_of (get_or rows p [])) (lane_of s i) =
+    up i h ∙ ap (λ (o : Pose). raised o (lane_of s i)) ep ∙ raise_climb (get_or rows p []) j (lane_of s i) ej in
+    record { ends = rw (e, ej) (sym (walk_up rows p (lane_of s i) steps c.0 c.1 l) ∙ w.ends) }
 
 pub four_turn :
-    (t : List ℕ) (n steps : ℕ) (parents s₀ s s' : List Float) (p₀ q₀ r₀ u₀ p q r u : ℕ) (j k l m : Joint) → steps < n
-    → length s' ≡ 28 → Climb n p × Climb n q × Climb n r × Climb n u → j ≡ joint_of (row_at t p) → k ≡ joint_of (row_at t q)
-    → l ≡ joint_of (row_at t r) → m ≡ joint_of (row_at t u)
+    (rows : List (List ℕ)) (steps : ℕ) (parents s₀ s s' : List Float) (p₀ q₀ r₀ u₀ p q r u : ℕ) (j k l m : Joint) → steps < length rows
+    → length s' ≡ 28 → Climb (length rows) p × Climb (length rows) q × Climb (length rows) r × Climb (length rows) u → j ≡ joint_of (bone_of (get_or rows p [])) → k ≡ joint_of (bone_of (get_or rows q []))
+    → l ≡ joint_of (bone_of (get_or rows r [])) → m ≡ joint_of (bone_of (get_or rows u []))
     → parents ≡ lanes_of (own_pose j) (own_pose k) (own_pose l) (own_pose m) → LanesRaised parents s s'
-    → FourWalks t n steps s₀ s p₀ q₀ r₀ u₀ p q r u
-    → FourWalks t n (steps + 1) s₀ s' p₀ q₀ r₀ u₀ j.parent k.parent l.parent m.parent
-four_turn t n steps parents s₀ s s' p₀ q₀ r₀ u₀ p q r u j k l m lt size c ej ek el em ep up w =
+    → FourWalks rows steps s₀ s p₀ q₀ r₀ u₀ p q r u
+    → FourWalks rows (steps + 1) s₀ s' p₀ q₀ r₀ u₀ j.parent k.parent l.parent m.parent
+four_turn rows steps parents s₀ s s' p₀ q₀ r₀ u₀ p q r u j k l m lt size c ej ek el em ep up w =
     let at : (i : ℕ) → lane_of parents i ≡ lane_of (lanes_of (own_pose j) (own_pose k) (own_pose l) (own_pose m)) i =
     λ i. ap (λ (o : List Float). lane_of o i) ep in
     record {
       size = size;
-      first = lane_turn t n steps parents s₀ s s' 0 p₀ p j lt (omega arith) c.0 ej (at 0) up w.first;
-      second = lane_turn t n steps parents s₀ s s' 1 q₀ q k lt (omega arith) c.1 ek (at 1) up w.second;
-      third = lane_turn t n steps parents s₀ s s' 2 r₀ r l lt (omega arith) c.2 el (at 2) up w.third;
-      fourth = lane_turn t n steps parents s₀ s s' 3 u₀ u m lt (omega arith) c.3 em (at 3) up w.fourth;
+      first = lane_turn rows steps parents s₀ s s' 0 p₀ p j lt (omega arith) c.0 ej (at 0) up w.first;
+      second = lane_turn rows steps parents s₀ s s' 1 q₀ q k lt (omega arith) c.1 ek (at 1) up w.second;
+      third = lane_turn rows steps parents s₀ s s' 2 r₀ r l lt (omega arith) c.2 el (at 2) up w.third;
+      fourth = lane_turn rows steps parents s₀ s s' 3 u₀ u m lt (omega arith) c.3 em (at 3) up w.fourth;
     }
 
 -- where the walk of the bone in lane i goes on from, once it is taken out
 lane_out :
-    (t : List ℕ) (n steps : ℕ) (s₀ s : List Float) (i p : ℕ) (own : Joint) (v : Pose) → lane_of s₀ i ≡ own_pose own
-    → v ≡ lane_of s i → LaneWalk t n steps s₀ s i own.parent p
-    → walk (bones_of n t) (n - steps) p v ≡ walk (bones_of n t) n own.parent (own_pose own)
-lane_out t n steps s₀ s i p own v eo ev w = rw (ev, sym eo) w.ends
+    (rows : List (List ℕ)) (steps : ℕ) (s₀ s : List Float) (i p : ℕ) (own : Joint) (v : Pose) → lane_of s₀ i ≡ own_pose own
+    → v ≡ lane_of s i → LaneWalk rows steps s₀ s i own.parent p
+    → walk (map bone_of rows) (length rows - steps) p v ≡ walk (map bone_of rows) (length rows) own.parent (own_pose own)
+lane_out rows steps s₀ s i p own v eo ev w = rw (ev, sym eo) w.ends
 
 pub four_out :
-    (t : List ℕ) (n : ℕ) (s₀ s : List Float) (a b c d : Joint) (f : Four)
+    (rows : List (List ℕ)) (s₀ s : List Float) (a b c d : Joint) (f : Four)
     → s₀ ≡ lanes_of (own_pose a) (own_pose b) (own_pose c) (own_pose d)
-    → FourWalks t n f.steps s₀ s a.parent b.parent c.parent d.parent
+    → FourWalks rows f.steps s₀ s a.parent b.parent c.parent d.parent
     f.a.parent f.b.parent f.c.parent f.d.parent
     → climber_pose f.a ≡ lane_of s 0 → climber_pose f.b ≡ lane_of s 1 → climber_pose f.c ≡ lane_of s 2
-    → climber_pose f.d ≡ lane_of s 3 → SideBySide (bones_of n t) n a b c d f
-four_out t n s₀ s a b c d f es w ea eb ec ed =
+    → climber_pose f.d ≡ lane_of s 3 → SideBySide rows a b c d f
+four_out rows s₀ s a b c d f es w ea eb ec ed =
     let at : (i : ℕ) → lane_of s₀ i ≡ lane_of (lanes_of (own_pose a) (own_pose b) (own_pose c) (own_pose d)) i =
     λ i. ap (λ (o : List Float). lane_of o i) es in
     record {
-      first = lane_out t n f.steps s₀ s 0 f.a.parent a (climber_pose f.a) (at 0) ea w.first;
-      second = lane_out t n f.steps s₀ s 1 f.b.parent b (climber_pose f.b) (at 1) eb w.second;
-      third = lane_out t n f.steps s₀ s 2 f.c.parent c (climber_pose f.c) (at 2) ec w.third;
-      fourth = lane_out t n f.steps s₀ s 3 f.d.parent d (climber_pose f.d) (at 3) ed w.fourth;
+      first = lane_out rows f.steps s₀ s 0 f.a.parent a (climber_pose f.a) (at 0) ea w.first;
+      second = lane_out rows f.steps s₀ s 1 f.b.parent b (climber_pose f.b) (at 1) eb w.second;
+      third = lane_out rows f.steps s₀ s 2 f.c.parent c (climber_pose f.c) (at 2) ec w.third;
+      fourth = lane_out rows f.steps s₀ s 3 f.d.parent d (climber_pose f.d) (at 3) ed w.fourth;
     }

@@ -1,10 +1,9 @@
 -- Four poses side by side: number k of the pose in lane i stands at i + 4 × k, the position before the rotation. Definitions only.
-use Rattle.std.specs.Prelude.{ℕ, ◌+◌, ◌-◌, ◌<◌, ◌≡◌, ◌≢◌, List, [], ◌∷◌, get_or, Float}
+use Rattle.std.specs.Prelude.{ℕ, ◌+◌, ◌-◌, ◌<◌, ◌≡◌, ◌≢◌, List, [], ◌∷◌, length, map, get_or, Float}
 use Rattle.std.specs.Float.{nan}
 use Rattle.math.specs.Vector.{vec3, vec4, add_vec3, quat_mul, quat_rotate}
-use Rattle.format.specs.Section.{Place}
-use Rattle.format.specs.Bone.{Bone}
 use Rattle.format.specs.Matrices.{Pose, walk}
+use Rattle.format.specs.Rows.{bone_of}
 use Rattle.derive_matrices.specs.declared.walk.Joint.{Joint}
 use Rattle.derive_matrices.specs.declared.walk.Four.{Four}
 use Rattle.derive_matrices.specs.Walking.{own_pose, walk_from}
@@ -46,8 +45,8 @@ abbrev pub LanesRaised : List Float → List Float → List Float → Type 0
 LanesRaised by s₀ s = (i : ℕ) → i < 4 → lane_of s i ≡ raised (lane_of by i) (lane_of s₀ i)
 
 -- each of four bones is on its own walk, and ends where the whole walk ends
-pub record SideBySide (bones : List (Bone Place)) (n : ℕ) (a b c d : Joint) (f : Four) : Type 0 where
-  pub first : walk_from bones (n - f.steps) f.a ≡ walk bones n a.parent (own_pose a)
-  pub second : walk_from bones (n - f.steps) f.b ≡ walk bones n b.parent (own_pose b)
-  pub third : walk_from bones (n - f.steps) f.c ≡ walk bones n c.parent (own_pose c)
-  pub fourth : walk_from bones (n - f.steps) f.d ≡ walk bones n d.parent (own_pose d)
+pub record SideBySide (rows : List (List ℕ)) (a b c d : Joint) (f : Four) : Type 0 where
+  pub first : walk_from (map bone_of rows) (length rows - f.steps) f.a ≡ walk (map bone_of rows) (length rows) a.parent (own_pose a)
+  pub second : walk_from (map bone_of rows) (length rows - f.steps) f.b ≡ walk (map bone_of rows) (length rows) b.parent (own_pose b)
+  pub third : walk_from (map bone_of rows) (length rows - f.steps) f.c ≡ walk (map bone_of rows) (length rows) c.parent (own_pose c)
+  pub fourth : walk_from (map bone_of rows) (length rows - f.steps) f.d ≡ walk (map bone_of rows) (length rows) d.parent (own_pose d)

@@ -1,5 +1,5 @@
 -- `build_transformations`: its sizes, its answer and what it leaves in its tables. Definitions only.
-use Rattle.std.specs.Prelude.{ℕ, ◌*◌, ◌≤◌, ◌≡◌, Bool, ◌&&◌, length, drop, leb}
+use Rattle.std.specs.Prelude.{ℕ, ◌*◌, ◌≤◌, ◌≡◌, Bool, ◌&&◌, length, map, take, drop, leb}
 use mathlib.Core.List.{List, ◌++◌, flat_map}
 use Rattle.math.specs.Matrix.{set_column4, matrix_words}
 use Rattle.math.specs.Inverse.{inverse}
@@ -7,7 +7,7 @@ use Rattle.format.specs.Result.{Res}
 use Rattle.format.specs.Section.{Place}
 use Rattle.format.specs.Bone.{Bone}
 use Rattle.format.specs.Matrices as format
-use Rattle.format.specs.Rows.{bone_width, bones_of}
+use Rattle.format.specs.Rows.{bone_width, bone_of}
 use Rattle.tables.specs.Outcome.{room_for, leaves}
 
 -- whether tables of so many words hold n bones and their matrices
@@ -25,9 +25,8 @@ pub record MatrixRows (c : Res (Unit {0})) (bones : List (Bone Place)) (i₀ i l
 
 -- ---- inside the call
 
--- the first table holds n bones, and the others have room for n matrices
-pub record MatrixRoom (n : ℕ) (t i l : List ℕ) : Type 0 where
-  pub bones : bone_width * n ≤ length t
+-- the tables have room for n matrices
+pub record MatrixRoom (n : ℕ) (i l : List ℕ) : Type 0 where
   pub inverse : 16 * n ≤ length i
   pub local : 16 * n ≤ length l
 
@@ -40,12 +39,12 @@ pub record MatricesFirst (n : ℕ) (bones : List (Bone Place)) (i₀ i l₀ l : 
 unfoldable pub inverse_from : format.Pose → List ℕ
 inverse_from s = set_column4 0 0 0 0 (matrix_words (inverse (format.affine s)))
 
--- the rows of the first p bones of t stand in d, and the rest is that of d₀
-pub record RowsPlaced (f : Bone Place → List ℕ) (t d₀ d : List ℕ) (p : ℕ) : Type 0 where
+-- what f gives of the first p bones stands in d, and the rest is that of d₀
+pub record RowsPlaced (f : Bone Place → List ℕ) (rows : List (List ℕ)) (d₀ d : List ℕ) (p : ℕ) : Type 0 where
   pub same : length d ≡ length d₀
-  pub is : d ≡ flat_map f (bones_of p t) ++ drop (16 * p) d₀
+  pub is : d ≡ flat_map f (map bone_of (take p rows)) ++ drop (16 * p) d₀
 
--- where the first p rows stand in d, the first q stand in d'
-pub record Continues (f : Bone Place → List ℕ) (t : List ℕ) (p q : ℕ) (d d' : List ℕ) : Type 0 where
+-- where that of the first p stands in d, that of the first q stands in d'
+pub record Continues (f : Bone Place → List ℕ) (rows : List (List ℕ)) (p q : ℕ) (d d' : List ℕ) : Type 0 where
   pub same : length d' ≡ length d
-  pub placed : (d₀ : List ℕ) → RowsPlaced f t d₀ d p → RowsPlaced f t d₀ d' q
+  pub placed : (d₀ : List ℕ) → RowsPlaced f rows d₀ d p → RowsPlaced f rows d₀ d' q

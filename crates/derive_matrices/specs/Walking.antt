@@ -1,9 +1,8 @@
 -- The parent walk over rows: the words it reads and what they stand for, and the walk from where a bone stands. Definitions only.
-use Rattle.std.specs.Prelude.{ℕ, ◌+◌, ◌*◌, ◌%◌, ◌≤◌, ◌<◌, ◌≡◌, Bool, true, List, length, get_or, leb}
+use Rattle.std.specs.Prelude.{ℕ, ◌%◌, ◌<◌, ◌≡◌, Bool, true, List, [], length, get_or, leb}
 use Rattle.format.specs.Section.{Place}
 use Rattle.format.specs.Bone.{Bone}
 use Rattle.format.specs.Matrices as format
-use Rattle.format.specs.Rows.{bone_width}
 use Rattle.derive_matrices.specs.declared.walk.Joint.{Joint}
 use Rattle.derive_matrices.specs.declared.walk.Pose.{Pose}
 use Rattle.derive_matrices.specs.declared.walk.Climber.{Climber}
@@ -15,19 +14,17 @@ plain_word w = leb (w % 0x8000_0000) 0x7F80_0000
 abbrev pub Plain : ℕ → Type 0
 Plain w = plain_word w ≡ true
 
--- the seven words of row p that the walk reads as floats are no NaN's
-abbrev pub PlainRow : List ℕ → ℕ → Type 0
-PlainRow t p = (i : ℕ) → i < 7 → Plain (get_or t (bone_width * p + i) 0)
+-- the seven words of a row that the walk reads as floats are no NaN's
+abbrev pub PlainRow : List ℕ → Type 0
+PlainRow row = (i : ℕ) → i < 7 → Plain (get_or row i 0)
 
--- the table holds n bones; where the flag is set, no row has a NaN
-pub record Walkable (plain : Bool) (n : ℕ) (t : List ℕ) : Type 0 where
-  pub holds : bone_width * n ≤ length t
-  pub plains : plain ≡ true → (p : ℕ) → p < n → PlainRow t p
+-- where the flag is set, the row has no NaN
+pub record Readable (plain : Bool) (row : List ℕ) : Type 0 where
+  pub plains : plain ≡ true → PlainRow row
 
--- row p is one of them
-pub record InTable (plain : Bool) (n p : ℕ) (t : List ℕ) : Type 0 where
-  pub below : p < n
-  pub table : Walkable plain n t
+-- where the flag is set, no row has a NaN
+pub record Walkable (plain : Bool) (rows : List (List ℕ)) : Type 0 where
+  pub each : (p : ℕ) → p < length rows → Readable plain (get_or rows p [])
 
 -- what the walk takes from a bone
 abbrev pub joint_of : Bone Place → Joint

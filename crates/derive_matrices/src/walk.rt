@@ -1,11 +1,10 @@
 // The parent walk: what it takes from a bone's row, and where it ends, for one bone or for four side by side (docs/FORMAT.md,
 // "Deriving": `build_transformations`).
-ghost use Rattle.std.specs.Prelude.{◌≡◌, true, IsTrue, EachIndex, ◌↔◌, ◌+◌, ◌-◌, ◌*◌, ◌≤◌, ◌<◌, length, get_or};
-ghost use Rattle.format.specs.Rows.{bone_width, bones_of};
-ghost use Rattle.rows.specs.Row.{row_at};
+ghost use Rattle.std.specs.Prelude.{◌≡◌, true, IsTrue, EachIndex, ◌↔◌, ◌+◌, ◌-◌, ◌*◌, ◌≤◌, ◌<◌, length, get_or, map};
+ghost use Rattle.format.specs.Rows.{bone_of};
 ghost use Rattle.math.specs.Word.{float_of};
 ghost use Rattle.derive_matrices.specs.Walking.{joint_of, own_pose, meant_pose, climber_pose, walk_from};
-ghost use Rattle.derive_matrices.specs.Walking.{plain_word, PlainRow, InTable, Walkable, Climb};
+ghost use Rattle.derive_matrices.specs.Walking.{plain_word, PlainRow, Readable, Walkable, Climb};
 ghost use Rattle.derive_matrices.specs.Lanes.{lanes_of, lane_of, raised, LanePut, LanesRaised, SideBySide};
 
 use format::{
@@ -71,40 +70,27 @@ fn plain(w: u32) -> bool
     w % SIGN_BIT <= INFINITY_WORD
 }
 
-// Whether none of the words that the walk reads as floats from row p is a NaN's.
-fn plain_row(bones: &[u32], p: usize) -> bool
-    requires { bone_width * p + bone_width ≤ length bones.now }
-    ensures answer { result ≡ true → PlainRow bones.now p }
+// Whether none of the words that the walk reads as floats from a row is a NaN's.
+fn plain_row(row: &[u32; BONE_WORDS]) -> bool
+    ensures answer { IsTrue result → PlainRow row.now }
 {
-    let at = BONE_WORDS * p;
-    for i in 0..JOINT_FLOATS {
-        if !plain(bones[at + i]) {
-            return false;
-        }
-    }
-    true
+    row[..JOINT_FLOATS].iter().all(|word| plain(*word))
 }
 
-// Whether that holds of each of n rows. One pass, so that no step of a walk looks for a NaN where there is none.
-pub(crate) fn plain_rows(bones: &[u32], n: usize) -> bool
-    requires { bone_width * n ≤ length bones.now }
-    ensures answer { Walkable result n bones.now }
+// Whether that holds of each row. One pass, so that no step of a walk looks for a NaN where there is none.
+pub(crate) fn plain_rows(bones: &[[u32; BONE_WORDS]]) -> bool
+    ensures answer { Walkable result bones.now }
 {
-    for p in 0..n {
-        if !plain_row(bones, p) {
-            return false;
-        }
-    }
-    true
+    bones.iter().all(plain_row)
 }
 
-// The float at word i of row p, one of n. `PLAIN` says here and below that no row has a NaN: its words are then taken as they stand.
-// (A struct of bones, n and this fact would keep it in a ghost field, and such a struct takes no `const` parameter of type `bool`.)
-fn float_in<const PLAIN: bool>(bones: &[u32], n: usize, p: usize, i: usize) -> f32
-    requires { InTable PLAIN n p bones.now × (i < 7) }
-    ensures answer { result ≡ float_of (get_or bones.now (bone_width * p + i) 0) }
+// The float at word i of a row. `PLAIN` says here and below that no row has a NaN: its words are then taken as they stand.
+// (A struct of the rows and this fact would keep it in a ghost field, and such a struct takes no `const` parameter of type `bool`.)
+fn float_in<const PLAIN: bool>(row: &[u32; BONE_WORDS], i: usize) -> f32
+    requires { Readable PLAIN row.now × (i < 7) }
+    ensures answer { result ≡ float_of (get_or row.now i 0) }
 {
-    let word = bones[BONE_WORDS * p + i];
+    let word = row[i];
     if PLAIN {
         f32::from_bits(word)
     } else {
@@ -112,24 +98,24 @@ fn float_in<const PLAIN: bool>(bones: &[u32], n: usize, p: usize, i: usize) -> f
     }
 }
 
-// What the walk takes from the bone in row p, one of n, with no test of bounds.
-pub(crate) fn joint_in<const PLAIN: bool>(bones: &[u32], n: usize, p: usize) -> Joint
-    requires { InTable PLAIN n p bones.now }
-    ensures answer { result ≡ joint_of (row_at bones.now p) }
+// What the walk takes from the bone in a row.
+pub(crate) fn joint_in<const PLAIN: bool>(row: &[u32; BONE_WORDS]) -> Joint
+    requires { Readable PLAIN row.now }
+    ensures answer { result ≡ joint_of (bone_of row.now) }
 {
     Joint {
         rotation: Vec4 {
-            x: float_in::<PLAIN>(bones, n, p, ROTATION_X),
-            y: float_in::<PLAIN>(bones, n, p, ROTATION_Y),
-            z: float_in::<PLAIN>(bones, n, p, ROTATION_Z),
-            w: float_in::<PLAIN>(bones, n, p, ROTATION_W),
+            x: float_in::<PLAIN>(row, ROTATION_X),
+            y: float_in::<PLAIN>(row, ROTATION_Y),
+            z: float_in::<PLAIN>(row, ROTATION_Z),
+            w: float_in::<PLAIN>(row, ROTATION_W),
         },
         translation: Vec3 {
-            x: float_in::<PLAIN>(bones, n, p, TRANSLATION_X),
-            y: float_in::<PLAIN>(bones, n, p, TRANSLATION_Y),
-            z: float_in::<PLAIN>(bones, n, p, TRANSLATION_Z),
+            x: float_in::<PLAIN>(row, TRANSLATION_X),
+            y: float_in::<PLAIN>(row, TRANSLATION_Y),
+            z: float_in::<PLAIN>(row, TRANSLATION_Z),
         },
-        parent: (bones[BONE_WORDS * p + SIBLING_AND_PARENT] / 65536) as u16,
+        parent: (row[SIBLING_AND_PARENT] / 65536) as u16,
     }
 }
 
@@ -154,22 +140,26 @@ fn climbs(p: u16, n: usize) -> bool
     p < NEGATIVE && usize::from(p) < n
 }
 
-// Where the walk ends of a bone that stands there with so many steps done. It climbs while the parent is the position of one of
-// the n bones and fewer than n steps are done.
-pub(crate) fn walked<const PLAIN: bool>(bones: &[u32], n: usize, from: Climber, done: usize) -> Pose
-    requires { Walkable PLAIN n bones.now }
-    ensures answer { meant_pose result ≡ walk_from (bones_of n bones.now) (n - done) from }
+// Where the walk ends of a bone that stands there with so many steps done. It climbs while the parent is the position of a bone and
+// fewer steps are done than there are bones.
+pub(crate) fn walked<const PLAIN: bool>(
+    bones: &[[u32; BONE_WORDS]],
+    from: Climber,
+    done: usize,
+) -> Pose
+    requires { Walkable PLAIN bones.now }
+    ensures answer { meant_pose result ≡ walk_from (map bone_of bones.now) (length bones.now - done) from }
 {
     let Pose {
         mut position,
         mut rotation,
     } = from.pose;
     let mut p = from.parent;
-    for _step in done..n {
-        if !climbs(p, n) {
+    for _step in done..bones.len() {
+        if !climbs(p, bones.len()) {
             break;
         }
-        let parent = joint_in::<PLAIN>(bones, n, usize::from(p));
+        let parent = joint_in::<PLAIN>(&bones[usize::from(p)]);
         rotation = parent.rotation.quat_mul(rotation);
         position = parent.rotation.quat_rotate(position) + parent.translation;
         p = parent.parent;
@@ -279,18 +269,26 @@ fn all_climb(parents: &[u16], n: usize) -> bool
 }
 
 // Four bones climb side by side while all four can: a step of one waits for no step of another. No row has a NaN.
-pub(crate) fn side_by_side(bones: &[u32], n: usize, a: Joint, b: Joint, c: Joint, d: Joint) -> Four
-    requires { Walkable true n bones.now }
-    ensures answer { SideBySide (bones_of n bones.now) n a b c d result }
+// (A `while`: it ends by two conditions, and the number of its steps is part of the answer.)
+pub(crate) fn side_by_side(
+    bones: &[[u32; BONE_WORDS]],
+    a: Joint,
+    b: Joint,
+    c: Joint,
+    d: Joint,
+) -> Four
+    requires { Walkable true bones.now }
+    ensures answer { SideBySide bones.now a b c d result }
 {
+    let n = bones.len();
     let mut poses = lanes_of(a, b, c, d);
     let mut parents = [a.parent, b.parent, c.parent, d.parent];
     let mut steps = 0;
     while steps < n && all_climb(&parents, n) {
-        let j = joint_in::<true>(bones, n, usize::from(parents[0]));
-        let k = joint_in::<true>(bones, n, usize::from(parents[1]));
-        let l = joint_in::<true>(bones, n, usize::from(parents[2]));
-        let m = joint_in::<true>(bones, n, usize::from(parents[3]));
+        let j = joint_in::<true>(&bones[usize::from(parents[0])]);
+        let k = joint_in::<true>(&bones[usize::from(parents[1])]);
+        let l = joint_in::<true>(&bones[usize::from(parents[2])]);
+        let m = joint_in::<true>(&bones[usize::from(parents[3])]);
         raise_lanes(&mut poses, &lanes_of(j, k, l, m));
         parents = [j.parent, k.parent, l.parent, m.parent];
         steps += 1;

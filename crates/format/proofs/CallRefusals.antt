@@ -1,16 +1,14 @@
--- Which refusals each call can give: along the definitions, what is refused is of the list. In order: steps; finding bytes; the pool;
--- reading; the other calls. Assumes nothing.
-use Prim.Native.Nat.{ℕ, zero, suc, ◌+◌, ◌-◌, ◌*◌, ◌/◌, ◌%◌}
-use mathlib.Core.Path.{◌≡◌, refl, subst}
-use native.Mathlib.Omega.{arith}
+-- Which refusals each call can give: along the definitions, what is refused is of the list. In order: the
+-- pool; reading; the other calls. Steps and finding bytes are in `Refusing`. Assumes nothing.
+use Prim.Native.Nat.{ℕ, zero, suc, ◌+◌, ◌-◌, ◌*◌, ◌%◌}
 use mathlib.Core.Bool.{Bool, true, false, ◌||◌}
 use Rattle.std.specs.Prelude.{Option, None, Some}
 use mathlib.Core.List.{List, [], ◌∷◌}
 use lib.ListN.{length}
 use lib.Dec.{T, leb, ltb, eqb}
-use Rattle.format.specs.Result.{Res, refused, done, ◌>>=◌, need}
+use Rattle.format.specs.Result.{Res}
 use Rattle.format.specs.Field.{words, field}
-use Rattle.format.specs.Section.{Section, Place, in_half, spot, window, cursor, part, array, name_at}
+use Rattle.format.specs.Section.{Section, Place, name_at}
 use Rattle.format.specs.Bone.{Bone, Words4}
 use Rattle.format.specs.Deriving.{DeriveRoom, derives, tags, parents, indices}
 use Rattle.format.specs.Chains.{chains}
@@ -21,7 +19,7 @@ use Rattle.format.specs.Tables as T
 use Rattle.format.specs.Tables.{ListTable, inverse_table, local_table, parents_table, children_table, table_number, width, words_per_row}
 use Rattle.format.specs.Tables.{Kind, same_kind, Rows, rows, Pooled, pooled, Tables, no_rows, Room, list_room, find, put_over, put}
 use Rattle.format.specs.Tables.{add_member, add_bucket, as_kind, list_at, words_in}
-use Rattle.format.specs.Records.{header, name_field, entry_tag, entry_position, entry_next}
+use Rattle.format.specs.Records.{name_field, entry_tag, entry_position, entry_next}
 use Rattle.format.specs.Read.{link_to, chain_from, read_chain, head_from, read_head, read_buckets, buckets_from, read_bucket_array}
 use Rattle.format.specs.Read.{name_from, read_name, bone_from, read_bone, read_bones, block_from, read_block, read_bones_at, keep_columns}
 use Rattle.format.specs.Read.{store_list, read_new, given_again, read_over, read_over_kind, list_from, read_list}
@@ -34,59 +32,8 @@ use Rattle.format.specs.Joints.{RotationLimit, rotation_written, TranslationLimi
 use Rattle.format.specs.Joints.{joints_written, limits, read_joints}
 use Rattle.format.specs.CallRefusals.{writing_refusals, reading_refusals, check_refusals, lookup_refusals}
 use Rattle.format.specs.CallRefusals.{joints_read_refusals, joints_written_refusals, rotation_written_refusals}
-use Rattle.format.specs.CallRefusals.{translation_written_refusals, one_of, RefusesOnly, CallRefusals}
-
--- ---- steps
-
-pub only-done : {A : Type 0} {ns : List ℕ} (a : A) → RefusesOnly ns (done a)
-only-done a = record { only = λ n e. let z : ◌≡◌ {A = ℕ} 0 1 = cc in absurd (omega arith) }
-
-pub only-refused : {A : Type 0} {ns : List ℕ} (n : ℕ) → T (one_of n ns) → RefusesOnly {A = A} ns (refused n)
-only-refused {ns = ns} n h = record { only = λ m e. subst (λ k. T (one_of k ns)) (refused-same n m e) h }
-  where
-    refused-same : {A : Type 0} (n m : ℕ) → ◌≡◌ {A = Res A} (refused n) (refused m) → n ≡ m
-    refused-same n m e = cc
-
--- a call, and behind it another
-pub only_then :
-    {A B : Type 0} {ns : List ℕ} {m : Res A} {f : A → Res B} → RefusesOnly ns m → ((a : A) → RefusesOnly ns (f a)) →
-    RefusesOnly ns (m >>= f)
-only_then {m = refused n} h k = only-refused n (h.only n refl)
-only_then {m = done a} h k = k a
-
--- a test
-pub only-need : {ns : List ℕ} (n : ℕ) (b : Bool) → T (one_of n ns) → RefusesOnly ns (need n b)
-only-need n true h = only-done tt
-only-need n false h = only-refused n h
-
--- ---- finding bytes, for a call that refuses 10 and 11
-
-module _ {ns : List ℕ} (ten : T (one_of 10 ns)) (eleven : T (one_of 11 ns)) (sec : Section) where
-  spot-only : (va : ℕ) → RefusesOnly ns (spot sec va)
-  unfolding spot
-  spot-only va = by (eqb (va / window) 5) (eqb (va / window) 6)
-    where
-      by : (s g : Bool) → RefusesOnly ns (in_half s g sec (va % window))
-      by true g = only-done _
-      by false true = only-done _
-      by false false = only-refused 10 ten
-
-  pub part-only : (va n : ℕ) → RefusesOnly ns (part sec va n)
-  unfolding part
-  part-only va n = only_then (spot-only va) λ p. only_then (only-need 11 (leb (p.offset + n) (length p.half)) eleven) λ u. only-done _
-
-  pub array-only : (va n : ℕ) → RefusesOnly ns (array sec va n)
-  unfolding array
-  array-only va zero = only-done []
-  array-only va (suc n) = part-only va (suc n)
-
-  pub cursor-only : (va : ℕ) → RefusesOnly ns (cursor sec va)
-  unfolding cursor
-  cursor-only va = only_then (spot-only va) λ p. only_then (only-need 11 (leb p.offset (length p.half)) eleven) λ u. only-done p
-
-  pub header-only : (root : ℕ) → RefusesOnly ns (header sec root)
-  unfolding header
-  header-only root = only_then (part-only root 98) λ b. only-done _
+use Rattle.format.specs.CallRefusals.{translation_written_refusals, RefusesOnly, CallRefusals}
+use Rattle.format.proofs.Refusing.{only-done, only-refused, only_then, only-need, part-only, array-only, cursor-only, header-only}
 
 -- ---- reading
 

@@ -5,6 +5,7 @@ pub mod Names
 pub mod NamesIgnored
 pub mod Same
 pub mod Computing
+pub mod Refusing
 pub mod CallRefusals
 pub mod Cases
 pub mod Controls

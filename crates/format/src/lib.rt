@@ -147,7 +147,7 @@ pub const GREATEST_ROTATION_ID: u32 = 65535;
 pub const LONGEST_NAME: usize = 255;
 
 // three floats as their words
-#[derive(Clone, Copy)]
+#[derive(Clone, Copy, Debug, PartialEq, Eq)]
 pub struct Words3 {
     pub x: u32,
     pub y: u32,
@@ -155,7 +155,7 @@ pub struct Words3 {
 }
 
 // four floats as their words
-#[derive(Clone, Copy)]
+#[derive(Clone, Copy, Debug, PartialEq, Eq)]
 pub struct Words4 {
     pub x: u32,
     pub y: u32,
@@ -164,7 +164,7 @@ pub struct Words4 {
 }
 
 // Where a name lies: its address and its length in bytes. Where a row holds one, address 0 is no name.
-#[derive(Clone, Copy)]
+#[derive(Clone, Copy, Debug, PartialEq, Eq)]
 pub struct Place {
     pub address: u64,
     pub size: u64,

@@ -17,7 +17,7 @@ pub fn read_full<R: Read>(input: &mut R, bytes: &mut [u8]) -> io::Result<usize>
     ensures end { IfOk result (λ n. n < length bytes.old → IsAtEnd (R.remaining input.new)) }
 {
     let mut done = 0;
-    // Not `read_exact` or `read_to_end`: they promise nothing of what was read before an error.
+    // Not `read_exact` or `read_to_end`: they promise nothing of what was read before an error. (A `while`: its step is what a read gave.)
     while done < bytes.len() {
         let n = input.read(&mut bytes[done..])?;
         if n == 0 {

@@ -157,9 +157,12 @@ module _ (o₀ b₀ e₀ i₀ l₀ a₀ c₀ p₀ : List ℕ) where
     fill_no_header i = record { fills = λ z. rw (sym hd ∙ ap (outcome_by meant_header) i) refl }
 
     module _
-        {h : Header} (ih : v ≡ Ok h) {r₁ : Result (Option ℕ × Option ℕ) Refusal} {o₁ b e p₁ : List ℕ} (m₁ : ReadsRows sec h r₁ o₀ o₁ b₀ b e₀ e p₀ p₁)
+        {h : Header} (ih : v ≡ Ok h) {r₁ : Result (Option ℕ × Option ℕ) Refusal} {o₁ b e p₁ : List ℕ}
+        (m₁ : ReadsRows sec h r₁ o₀ o₁ b₀ b e₀ e p₀ p₁)
       where
-        rows-read : {y : Result (Option ℕ × Option ℕ) Refusal} → r₁ ≡ y → Zero → RowsBy room (read_rows sec room (meant_header h) no_rows) o₁ b e p₁ y
+        rows-read :
+            {y : Result (Option ℕ × Option ℕ) Refusal} → r₁ ≡ y → Zero →
+            RowsBy room (read_rows sec room (meant_header h) no_rows) o₁ b e p₁ y
         rows-read i z =
             subst (λ (y : Result (Option ℕ × Option ℕ) Refusal). RowsBy room (read_rows sec room (meant_header h) no_rows) o₁ b e p₁ y) i
             (m₁.reads room (rows-lent z))
@@ -203,7 +206,9 @@ module _ (o₀ b₀ e₀ i₀ l₀ a₀ c₀ p₀ : List ℕ) where
             pair₂ z =
                 read_pair sec room inverse_table h.inverse_at h.bone_count h.local_at h.bone_count (t₁ z)
 
-            matrices_read : {y : Result (Option ℕ × Option ℕ) Refusal} → r₂ ≡ y → (z : Zero) → PairBy inverse_table room (t₁ z) (pair₂ z) i₀ i l₀ l p₂ y
+            matrices_read :
+                {y : Result (Option ℕ × Option ℕ) Refusal} → r₂ ≡ y → (z : Zero) →
+                PairBy inverse_table room (t₁ z) (pair₂ z) i₀ i l₀ l p₂ y
             matrices_read j z =
                 subst (λ (y : Result (Option ℕ × Option ℕ) Refusal). PairBy inverse_table room (t₁ z) (pair₂ z) i₀ i l₀ l p₂ y) j
                 (m₂.reads room (t₁ z) (matrices_lent z))
@@ -251,7 +256,9 @@ module _ (o₀ b₀ e₀ i₀ l₀ a₀ c₀ p₀ : List ℕ) where
                     read_pair sec room parents_table h.parents_at h.bone_count h.children_at h.child_count
                     (t₂ z)
 
-                indices-read : {q : Result (Option ℕ × Option ℕ) Refusal} → r₃ ≡ q → (z : Zero) → PairBy parents_table room (t₂ z) (pair₃ z) a₀ a c₀ c p₃ q
+                indices-read :
+                    {q : Result (Option ℕ × Option ℕ) Refusal} → r₃ ≡ q → (z : Zero) →
+                    PairBy parents_table room (t₂ z) (pair₃ z) a₀ a c₀ c p₃ q
                 indices-read j z =
                     subst (λ (q : Result (Option ℕ × Option ℕ) Refusal). PairBy parents_table room (t₂ z) (pair₃ z) a₀ a c₀ c p₃ q) j
                     (m₃.reads room (t₂ z) (indices-lent z))
@@ -268,7 +275,8 @@ module _ (o₀ b₀ e₀ i₀ l₀ a₀ c₀ p₀ : List ℕ) where
                 fill_no_indices j = record { fills = λ z. from_indices z (indices-read j z) }
 
                 module _
-                    {x₃ y₃ : Option ℕ} (d₃ : r₃ ≡ Ok (x₃, y₃)) {o p : List ℕ} (k : KeepsPart y₁ y₂ l o₁ o) {s : Result (Unit {0}) Refusal}
+                    {x₃ y₃ : Option ℕ} (d₃ : r₃ ≡ Ok (x₃, y₃)) {o p : List ℕ} (k : KeepsPart y₁ y₂ l o₁ o)
+                    {s : Result (Unit {0}) Refusal}
                     (w : Stores (pooled root skeleton (rows 0 1)) s p₃ p)
                   where
                     -- the tables with every part
@@ -307,7 +315,8 @@ module _ (o₀ b₀ e₀ i₀ l₀ a₀ c₀ p₀ : List ℕ) where
                         }
 
                     pub fill_done :
-                        {v : Unit {0}} → s ≡ Ok v → length o ≡ length o₀ → length b ≡ length b₀ → length e ≡ length e₀ → length l ≡ length l₀ →
+                        {v : Unit {0}} → s ≡ Ok v →
+                        length o ≡ length o₀ → length b ≡ length b₀ → length e ≡ length e₀ → length l ≡ length l₀ →
                         Fills sec root (Ok (skeleton_of h x₁ y₁ x₂ y₂ x₃ y₃)) given (lent o b e i l a c p)
                     unfolding table_words
                     fill_done f so sb se sl =

@@ -18,10 +18,11 @@ use Rattle.format.specs.Tables.{Rows, rows, Pooled, pooled, Lists, Tables, Room,
 use Rattle.format.specs.Tables.{words_in, add_words, list_at, find, put, as_kind}
 use Rattle.format.specs.Read.{read_buckets, buckets_from, read_bucket_array, store_list, read_new, read_list}
 use Rattle.format.proofs.Results.{gone}
-use Rattle.blocks.specs.Pool.{enter}
+use Rattle.blocks.specs.Pool.{enter, meant_rows}
 use Rattle.blocks.proofs.Entering.{put-enter}
 use Rattle.read_lists.specs.Lists.{twin, Inside, ListsStand}
-use Rattle.read_lists.specs.Pooling.{way_by, way_over, way_of}
+use Rattle.blocks.specs.declared.pool.Stored.{Stored}
+use Rattle.read_lists.specs.Pooling.{stored_rows, way_by, way_over, way_of}
 use Rattle.read_lists.specs.declared.pooling.Way.{Way}
 use Rattle.read_lists.specs.declared.pooling.Way.TheVariants.{Again, Copy, Over, New}
 use Rattle.read_lists.proofs.Standing.{words_in-longer}
@@ -81,16 +82,17 @@ table_of children_table children_table e = refl
 
 -- a list given again lies in its own table
 again_inside :
-    (l : ListTable) (t : Lists) {f c : ℕ} (k : Kind) (x : Rows) → way_over l k x ≡ Again f c → Inside k x t →
-    f + c ≤ length (words_in l t)
-again_inside l t {f} {c} (list o) x e h = by (same_kind (list o) (list l)) (eqb (table_number l) (table_number o)) refl e
+    (l : ListTable) (t : Lists) {y : Stored} (k : Kind) (x : Rows) → way_over l k x ≡ Again y → Inside k x t →
+    y.first + y.count ≤ length (words_in l t)
+again_inside l t {y} (list o) x e h = by (same_kind (list o) (list l)) (eqb (table_number l) (table_number o)) refl e
   where
     by :
-        (b d : Bool) → eqb (table_number l) (table_number o) ≡ d → way_by b d x ≡ Again f c → f + c ≤ length (words_in l t)
+        (b d : Bool) → eqb (table_number l) (table_number o) ≡ d → way_by b d x ≡ Again y → y.first + y.count ≤ length (words_in l t)
     by true true q w =
         let is : o ≡ l = table_of l o (eqb-true (table_number l) (table_number o) q) in
-        let a : x.first ≡ f = cc in
-        let b : x.count ≡ c = cc in
+        let s : stored_rows x ≡ y = cc in
+        let a : x.first ≡ y.first = ap (λ (z : Stored). z.first) s in
+        let b : x.count ≡ y.count = ap (λ (z : Stored). z.count) s in
         rw (a, b, is) at h
     by true false q w = let z : ◌≡◌ {A = ℕ} 0 1 = cc in absurd (omega arith)
     by false d q w = let z : ◌≡◌ {A = ℕ} 0 1 = cc in absurd (omega arith)
@@ -102,11 +104,11 @@ again_inside l t bone x e h = let z : ◌≡◌ {A = ℕ} 0 1 = cc in absurd (om
 again_inside l t string x e h = let z : ◌≡◌ {A = ℕ} 0 1 = cc in absurd (omega arith)
 
 again_found :
-    (l : ListTable) (va : ℕ) (u : Tables) {f c : ℕ} → ListsStand u → way_of l (find va u.pool) ≡ Again f c →
-    f + c ≤ length (words_in l u.lists)
-again_found l va u {f} {c} h e = by (find va u.pool) refl e
+    (l : ListTable) (va : ℕ) (u : Tables) {y : Stored} → ListsStand u → way_of l (find va u.pool) ≡ Again y →
+    y.first + y.count ≤ length (words_in l u.lists)
+again_found l va u {y} h e = by (find va u.pool) refl e
   where
-    by : (o : Option Pooled) → find va u.pool ≡ o → way_of l o ≡ Again f c → f + c ≤ length (words_in l u.lists)
+    by : (o : Option Pooled) → find va u.pool ≡ o → way_of l o ≡ Again y → y.first + y.count ≤ length (words_in l u.lists)
     by None d w = let z : ◌≡◌ {A = ℕ} 0 1 = cc in absurd (omega arith)
     by (Some p) d w = again_inside l u.lists p.kind p.stored w (h.stand va p d)
 
@@ -141,12 +143,12 @@ module _ (s : Section) (room : Room) (l : ListTable) (u : Tables) (no : words_in
   way_first :
       (va n : ℕ) (r : Rows) (v : Tables) → ListsStand u → (w : Way) → way_of l (find va u.pool) ≡ w →
       goes s room l va n u w ≡ done (Some r, v) → First l r v
-  way_first va n r v h (Again f c) i e =
-      let k : f + c ≤ 0 = rw (ap length no) at (again_found l va u h i) in
+  way_first va n r v h (Again x) i e =
+      let k : x.first + x.count ≤ 0 = rw (ap length no) at (again_found l va u h i) in
       first_as (record { zero = omega arith; within = omega arith }) (step_value e) (step_tables e)
-  way_first va n r v h (Copy f c) i e =
-      gone (store_list s room l (list_at (twin l) (rows f c) u) u) _ (Some r, v) e λ x q e₁.
-      first_as (stored-first (list_at (twin l) (rows f c) u) x.0 x.1 q) (step_value e₁) (step_tables e₁)
+  way_first va n r v h (Copy y) i e =
+      gone (store_list s room l (list_at (twin l) (meant_rows y) u) u) _ (Some r, v) e λ x q e₁.
+      first_as (stored-first (list_at (twin l) (meant_rows y) u) x.0 x.1 q) (step_value e₁) (step_tables e₁)
   way_first va n r v h Over i e =
       gone (read_new s room l va n u) _ (Some r, v) e λ x q e₁.
       first_as (new-first va n x.0 x.1 q) (step_value e₁) (step_tables e₁)

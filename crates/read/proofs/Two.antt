@@ -1,12 +1,12 @@
--- The ways out of `read_rows`, `read_matrices` and `read_indices`: two parts of a reading, one after the other. Assumes nothing.
+-- The ways out of `read_rows` and `read_pair`: two parts of a reading, one after the other. Assumes nothing.
 use Rattle.std.specs.Prelude.{Option}
 use Rattle.std.specs.Prelude.{Err, Ok, Result}
 use Prim.Native.Nat.{ℕ}
 use native.Mathlib.Omega.{arith}
 use mathlib.Core.Path.{◌≡◌, refl, sym, ap, subst, ◌∙◌}
 use Rattle.std.specs.Prelude.{None, Some}
-use mathlib.Core.List.{List, [], ◌++◌}
-use lib.ListN.{length}
+use mathlib.Core.List.{List, [], ◌++◌, map}
+use lib.ListN.{length, length-map}
 use Rattle.format.specs.Result.{done}
 use Rattle.format.specs.declared.Refusal.{Refusal}
 use Rattle.format.specs.Section.{Section}
@@ -156,6 +156,12 @@ twin-longer children_table w t = refl
 -- the words of a table that had none
 only-words : (l : ListTable) (w : List ℕ) (t : Lists) → words_in l t ≡ [] → words_in l (longer l w t) ≡ w
 only-words l w t e = words_in-longer l w t ∙ ap (λ (a : List ℕ). a ++ w) e
+
+-- tables of one length have as many numbers
+pub same-length :
+    {A : Type 0} {number : A → ℕ} {numbers : List A → List ℕ} (each : (w : List A) → map number w ≡ numbers w) (a b : List A) →
+    length a ≡ length b → length (numbers a) ≡ length (numbers b)
+same-length each a b e = rw (← each a, ← each b) (simp length-map e)
 
 -- a cleared table holds no words
 holds-no_words : (t : List ℕ) {w : List ℕ} → t ≡ cleared (length t) → w ≡ [] → t ≡ laid w (length t)

@@ -19,7 +19,7 @@ mod parts; // the parts, one after another
 
 // A skeleton that was read: the fields that stay, and of each part that stands how long it is, in rows, and in words of a list of matrices.
 // Each part's rows are the first of its table.
-#[derive(Clone, Copy)]
+#[derive(Clone, Copy, Debug, PartialEq, Eq)]
 pub struct Skeleton {
     // the kind word, as it is stored
     pub kind: u32,
@@ -67,50 +67,16 @@ impl Tables<'_> {
 }
 
 // The skeleton at an address, read into tables that are all zero. Of a refusal nothing is said of the tables.
-fn fill(section: Section, root: u64, tables: &mut Tables) -> Result<Skeleton, Refusal>
-    ensures filled { Fills (section_of section.entry) root result (lists tables.old) (lists tables.new) }
-    ensures same { SameTables tables.old tables.new }
+fn fill(section: Section, root: u64, t: &mut Tables) -> Result<Skeleton, Refusal>
+    ensures filled { Fills (section_of section.entry) root result (lists t.old) (lists t.new) }
+    ensures same { SameTables t.old t.new }
 {
     let h = header::header_at(section, root)?;
-    let sys = section.system;
-    let gfx = section.graphics;
-    let (buckets, bones) = parts::read_rows(
-        sys,
-        gfx,
-        h,
-        tables.bones,
-        tables.buckets,
-        tables.entries,
-        tables.pool,
-    )?;
-    let (inverse, local) = parts::read_matrices(
-        sys,
-        gfx,
-        h.inverse_at,
-        h.local_at,
-        h.bone_count,
-        tables.inverse,
-        tables.local,
-        tables.pool,
-    )?;
-    let (parents, children) = parts::read_indices(
-        sys,
-        gfx,
-        h.parents_at,
-        h.bone_count,
-        h.children_at,
-        h.child_count,
-        tables.parents,
-        tables.children,
-        tables.pool,
-    )?;
-    parts::keep(tables.bones, bones, tables.local, local);
-    pool::put(
-        tables.pool,
-        root,
-        Kind::Skeleton,
-        Stored { first: 0, count: 1 },
-    )?;
+    let (buckets, bones) = parts::read_rows(section, h, t.bones, t.buckets, t.entries, t.pool)?;
+    let (inverse, local) = parts::read_matrices(section, h, t.inverse, t.local, t.pool)?;
+    let (parents, children) = parts::read_indices(section, h, t.parents, t.children, t.pool)?;
+    parts::keep(t.bones, bones, t.local, local);
+    pool::put(t.pool, root, Kind::Skeleton, Stored { first: 0, count: 1 })?;
     Ok(Skeleton {
         kind: h.kind,
         free: h.free,

@@ -1,210 +1,189 @@
 // The parts of a skeleton, each read into its own tables (docs/FORMAT.md, "Reading and writing a skeleton"): buckets with chains,
 // bones with names, the two lists of matrices, parents and children. These are the steps of one reading: every table is zero
-// before it, and of a refusal nothing is said of the tables.
+// before it, and of a refusal nothing is said of the tables. Where a part stands its length is given: in rows, and in words of a list
+// of matrices. (Each step is lent the tables that it fills, and no struct of all: of the others it would have to say that they stay.)
 ghost use Rattle.std.specs.Prelude.{◌≡◌};
-ghost use Rattle.blocks.specs.Places.{section};
+ghost use Rattle.blocks.specs.Places.{section_of};
 ghost use Rattle.format.specs.Tables.{inverse_table, parents_table};
-ghost use Rattle.read_lists.specs.Lists.{matrix_table, index_table};
+ghost use Rattle.read_chains.specs.Lent.{SameTables};
 ghost use Rattle.read.specs.Parts.{ReadsChains, ReadsBonesIn, ReadsListIn, ReadsRows, ReadsPair, KeepsPart};
 
 use blocks::places::Section;
 use format::Refusal;
 use read_bones::columns;
-use read_chains::Used;
-use read_lists::{Indices, Listed, Matrices};
+use read_chains::{Tables, Used};
+use read_lists::{Indices, ListKind, Matrices};
 use read_records::header::Header;
-
-// Where a part stands, how long it is: in rows, and in words of a list of matrices.
 
 // ---- one part
 
-// The buckets with their chains.
-fn chains_in<'a>(
-    sys: &'a [u8],
-    gfx: &'a [u8],
+// The buckets with their chains, in the tables that chains are read into.
+fn buckets_in(
+    section: Section,
+    va: u64,
+    n: u16,
+    tables: &mut Tables,
+) -> Result<Option<usize>, Refusal>
+    ensures chains { ReadsChains (section_of section.entry) va n result
+        tables.old.buckets.now tables.new.buckets.now
+        tables.old.entries.now tables.new.entries.now tables.old.pool.now tables.new.pool.now }
+    ensures same { SameTables tables.old tables.new }
+{
+    let used = Used {
+        buckets: 0,
+        entries: 0,
+    };
+    let array = read_chains::read_buckets(section, va, n, tables, used)?;
+    Ok(array.map(|array| array.stored.count as usize))
+}
+
+// The same, each table lent by itself.
+fn chains_in(
+    section: Section,
     va: u64,
     n: u16,
     buckets: &mut [u32],
     entries: &mut [u32],
     pool: &mut [u64],
 ) -> Result<Option<usize>, Refusal>
-    ensures { ReadsChains (section sys.now gfx.now) va n result
+    ensures { ReadsChains (section_of section.entry) va n result
         buckets.old buckets.new
         entries.old entries.new pool.old pool.new }
 {
-    let section = Section {
-        system: sys,
-        graphics: gfx,
+    let mut tables = Tables {
+        buckets,
+        entries,
+        pool,
     };
-    let used = Used {
-        buckets: 0,
-        entries: 0,
-    };
-    match read_chains::read_buckets(section, va, n, buckets, entries, used, pool)? {
-        None => Ok(None),
-        Some(array) => Ok(Some(array.stored.count as usize)),
-    }
+    buckets_in(section, va, n, &mut tables)
 }
 
 // The bones with their names.
 fn bones_in(
-    sys: &[u8],
-    gfx: &[u8],
+    section: Section,
     pointer: u64,
     n: u16,
     bones: &mut [u32],
     pool: &mut [u64],
 ) -> Result<Option<usize>, Refusal>
-    ensures { ReadsBonesIn (section sys.now gfx.now) pointer n result
+    ensures { ReadsBonesIn (section_of section.entry) pointer n result
         bones.old bones.new pool.old pool.new }
 {
-    let section = Section {
-        system: sys,
-        graphics: gfx,
-    };
-    match read_bones::read_block(section, pointer, n as usize, bones, 0, pool)? {
-        None => Ok(None),
-        Some(block) => Ok(Some(block.stored.count as usize)),
-    }
+    let block = read_bones::read_block(section, pointer, n as usize, bones, 0, pool)?;
+    Ok(block.map(|block| block.stored.count as usize))
 }
 
-// A list of matrices; `other` is the other table of them.
-fn matrices_in(
-    sys: &[u8],
-    gfx: &[u8],
-    which: Matrices,
+// A list; `other` is the other table of its kind.
+fn list_in<K: ListKind>(
+    section: Section,
+    which: K,
     va: u64,
     n: u16,
-    own: &mut [u32],
-    other: &[u32],
+    own: &mut [K::Word],
+    other: &[K::Word],
     pool: &mut [u64],
 ) -> Result<Option<usize>, Refusal>
-    ensures { ReadsListIn (section sys.now gfx.now) (matrix_table which) va n
-        other.now result own.old own.new pool.old pool.new }
+    ensures { ReadsListIn (section_of section.entry) (K.table which) va n (K.Word.numbers other.now) result
+        (K.Word.numbers own.old) (K.Word.numbers own.new) pool.old pool.new }
 {
-    match read_lists::read_matrices(sys, gfx, which, va, n, own, 0, other, pool) {
-        Listed::Absent => Ok(None),
-        Listed::At(_, count, _) => Ok(Some(count)),
-        Listed::Refused(r) => Err(r),
-    }
-}
-
-// A list of indices, likewise.
-fn indices_in(
-    sys: &[u8],
-    gfx: &[u8],
-    which: Indices,
-    va: u64,
-    n: u16,
-    own: &mut [u16],
-    other: &[u16],
-    pool: &mut [u64],
-) -> Result<Option<usize>, Refusal>
-    ensures { ReadsListIn (section sys.now gfx.now) (index_table which) va n
-        other.now result own.old own.new pool.old pool.new }
-{
-    match read_lists::read_indices(sys, gfx, which, va, n, own, 0, other, pool) {
-        Listed::Absent => Ok(None),
-        Listed::At(_, count, _) => Ok(Some(count)),
-        Listed::Refused(r) => Err(r),
-    }
+    let list = read_lists::read_list(section, which, va, n, own, 0, other, pool)?;
+    Ok(list.map(|list| list.stored.count as usize))
 }
 
 // ---- two parts
 
 // The buckets with their chains, then the bones with their names.
-pub fn read_rows<'a>(
-    sys: &'a [u8],
-    gfx: &'a [u8],
+pub fn read_rows(
+    section: Section,
     h: Header,
     bones: &mut [u32],
     buckets: &mut [u32],
     entries: &mut [u32],
     pool: &mut [u64],
 ) -> Result<(Option<usize>, Option<usize>), Refusal>
-    ensures tables { ReadsRows (section sys.now gfx.now) h result
+    ensures tables { ReadsRows (section_of section.entry) h result
         bones.old bones.new buckets.old buckets.new
         entries.old entries.new pool.old pool.new }
 {
     let chains = chains_in(
-        sys,
-        gfx,
+        section,
         h.buckets_at,
         h.bucket_count,
         buckets,
         entries,
         pool,
     )?;
-    let block = bones_in(sys, gfx, h.bones_at, h.bone_count, bones, pool)?;
+    let block = bones_in(section, h.bones_at, h.bone_count, bones, pool)?;
     Ok((chains, block))
+}
+
+// The list of n rows at an address, then the list of m rows of the other table of its kind.
+fn read_pair<K: ListKind>(
+    section: Section,
+    which: K,
+    va: u64,
+    n: u16,
+    other_va: u64,
+    m: u16,
+    own: &mut [K::Word],
+    other: &mut [K::Word],
+    pool: &mut [u64],
+) -> Result<(Option<usize>, Option<usize>), Refusal>
+    ensures { ReadsPair (section_of section.entry) (K.table which) va n other_va m result
+        (K.Word.numbers own.old) (K.Word.numbers own.new)
+        (K.Word.numbers other.old) (K.Word.numbers other.new) pool.old pool.new }
+{
+    let first = list_in(section, which, va, n, own, other, pool)?;
+    let second = list_in(section, which.other(), other_va, m, other, own, pool)?;
+    Ok((first, second))
 }
 
 // The inverse matrices, then the local ones.
 pub fn read_matrices(
-    sys: &[u8],
-    gfx: &[u8],
-    inverse_at: u64,
-    local_at: u64,
-    n: u16,
+    section: Section,
+    h: Header,
     inverse: &mut [u32],
     local: &mut [u32],
     pool: &mut [u64],
 ) -> Result<(Option<usize>, Option<usize>), Refusal>
-    ensures tables { ReadsPair (section sys.now gfx.now)
-        inverse_table inverse_at n local_at n result inverse.old inverse.new
-        local.old local.new pool.old pool.new }
+    ensures tables { ReadsPair (section_of section.entry) inverse_table h.inverse_at h.bone_count h.local_at h.bone_count result
+        inverse.old inverse.new local.old local.new pool.old pool.new }
 {
-    let first = matrices_in(
-        sys,
-        gfx,
+    read_pair(
+        section,
         Matrices::Inverse,
-        inverse_at,
-        n,
+        h.inverse_at,
+        h.bone_count,
+        h.local_at,
+        h.bone_count,
         inverse,
         local,
         pool,
-    )?;
-    let second = matrices_in(sys, gfx, Matrices::Local, local_at, n, local, inverse, pool)?;
-    Ok((first, second))
+    )
 }
 
 // The parents, then the child entries.
 pub fn read_indices(
-    sys: &[u8],
-    gfx: &[u8],
-    parents_at: u64,
-    n: u16,
-    children_at: u64,
-    m: u16,
+    section: Section,
+    h: Header,
     parents: &mut [u16],
     children: &mut [u16],
     pool: &mut [u64],
 ) -> Result<(Option<usize>, Option<usize>), Refusal>
-    ensures tables { ReadsPair (section sys.now gfx.now)
-        parents_table parents_at n children_at m result parents.old parents.new
-        children.old children.new pool.old pool.new }
+    ensures tables { ReadsPair (section_of section.entry) parents_table h.parents_at h.bone_count h.children_at h.child_count result
+        parents.old parents.new children.old children.new pool.old pool.new }
 {
-    let first = indices_in(
-        sys,
-        gfx,
+    read_pair(
+        section,
         Indices::Parents,
-        parents_at,
-        n,
+        h.parents_at,
+        h.bone_count,
+        h.children_at,
+        h.child_count,
         parents,
         children,
         pool,
-    )?;
-    let second = indices_in(
-        sys,
-        gfx,
-        Indices::Children,
-        children_at,
-        m,
-        children,
-        parents,
-        pool,
-    )?;
-    Ok((first, second))
+    )
 }
 
 // The kept words of the bones, where bones and local matrices stand. The matrices are lent by `&mut`, since they lie beside the bones in one

@@ -55,108 +55,112 @@ module _
               };
         }
 
-    module _ {bytes : List ℕ} (e : done bytes ≡ rest sec (pointer - 16)) {r : Result ℕ Refusal} {b p₁ : List ℕ} (s : ReadsBones sec pointer n used r b₀ b p₀ p₁) where
-      legal : (p : Spot) × (cursor sec (pointer - 16) ≡ done p)
-      legal = rest-legal sec (pointer - 16) bytes e
+    module _
+        {bytes : List ℕ} (e : done bytes ≡ rest sec (pointer - 16)) {r : Result ℕ Refusal} {b p₁ : List ℕ}
+        (s : ReadsBones sec pointer n used r b₀ b p₀ p₁)
+      where
+        legal : (p : Spot) × (cursor sec (pointer - 16) ≡ done p)
+        legal = rest-legal sec (pointer - 16) bytes e
 
-      header-found : cursor sec (pointer - 16) ≡ done legal.0
-      header-found = legal.1
+        header-found : cursor sec (pointer - 16) ≡ done legal.0
+        header-found = legal.1
 
-      -- the bones of the block, which follow its header
-      bones_read_lem :
-          (room : Room) (t : Tables) (d : StretchLeft (read_bones sec room n pointer t) room t n r b p₁) {r' : Result ℕ Refusal} → r ≡ r' →
-          read_bones sec room n (pointer - 16 + 16) t
-          ≡ stretch_step r' (leaving t d.bones (t.members ++ up_from (length t.bones) n) d.pool)
-      bones_read_lem room t d i =
-          let k : pointer - 16 + 16 ≡ pointer = omega (arith, far) in
-          let ms = t.members ++ up_from (length t.bones) n in
-          rw k (d.answer ∙ ap (λ (y : Result ℕ Refusal). stretch_step y (leaving t d.bones ms d.pool)) i)
+        -- the bones of the block, which follow its header
+        bones_read_lem :
+            (room : Room) (t : Tables) (d : StretchLeft (read_bones sec room n pointer t) room t n r b p₁) {r' : Result ℕ Refusal} → r ≡ r' →
+            read_bones sec room n (pointer - 16 + 16) t
+            ≡ stretch_step r' (leaving t d.bones (t.members ++ up_from (length t.bones) n) d.pool)
+        bones_read_lem room t d i =
+            let k : pointer - 16 + 16 ≡ pointer = omega (arith, far) in
+            let ms = t.members ++ up_from (length t.bones) n in
+            rw k (d.answer ∙ ap (λ (y : Result ℕ Refusal). stretch_step y (leaving t d.bones ms d.pool)) i)
 
-      pub block-bones-refused : {x : Refusal} → r ≡ Err x → NewBlock sec pointer n used (Err x) b₀ b p₀ p₁
-      unfolding block_from
-      block-bones-refused i =
-          record {
-            reads =
-                λ room t before o.
+        pub block-bones-refused : {x : Refusal} → r ≡ Err x → NewBlock sec pointer n used (Err x) b₀ b p₀ p₁
+        unfolding block_from
+        block-bones-refused i =
+            record {
+              reads =
+                  λ room t before o.
+                  record {
+                    bones = t.bones;
+                    pool = t.pool;
+                    answer = rw (header-found, bones_read_lem room t (s.reads room t before) i) refl;
+                    table = tt;
+                  };
+            }
+
+        module _
+            {u : ℕ} (i : r ≡ Ok u) {x : Result (Unit {0}) Refusal} {p : List ℕ} (w : Stores (pool_row (pointer - 16) block used n) x p₁ p)
+          where
+            -- the bones read, and the store as the format makes it
+            grown :
+                (room : Room) (t : Tables) (d : StretchLeft (read_bones sec room n pointer t) room t n r b p₁) →
+                Grown room t n u d.bones d.pool b p₁
+            grown room t d = subst (λ (y : Result ℕ Refusal). StretchTable y room t n d.bones d.pool b p₁) i d.table
+
+            as_stored :
+                (t : Tables) → used ≡ length t.bones → InOrder t →
+                Stores (pool_row (pointer - 16) block (length t.members) n) x p₁ p
+            as_stored t e o =
+                let k : used ≡ length t.members = e ∙ sym (ap length o ∙ length-up_from 0 (length t.bones)) in
+                subst (λ (f : ℕ). Stores (pool_row (pointer - 16) block f n) x p₁ p) k w
+
+            pub block-full : {y : Refusal} → x ≡ Err y → NewBlock sec pointer n used (Err y) b₀ b p₀ p
+            unfolding block_from
+            block-full f =
                 record {
-                  bones = t.bones;
-                  pool = t.pool;
-                  answer = rw (header-found, bones_read_lem room t (s.reads room t before) i) refl;
-                  table = tt;
-                };
-          }
+                  reads =
+                      λ room t before o.
+                      let d = s.reads room t before in
+                      let ms = t.members ++ up_from (length t.bones) n in
+                      record {
+                        bones = t.bones;
+                        pool = t.pool;
+                        answer =
+                            rw (
+                              header-found,
+                              bones_read_lem room t d i,
+                              tables-full room (leaving t d.bones ms d.pool) (pointer - 16) block (rows (length t.members) n)
+                                  (as_stored t before.count o) (grown room t d).lent.held f,
+                            )
+                            refl;
+                        table = tt;
+                      };
+                }
 
-      module _
-          {u : ℕ} (i : r ≡ Ok u) {x : Result (Unit {0}) Refusal} {p : List ℕ} (w : Stores (pool_row (pointer - 16) block used n) x p₁ p)
-        where
-          -- the bones read, and the store as the format makes it
-          grown :
-              (room : Room) (t : Tables) (d : StretchLeft (read_bones sec room n pointer t) room t n r b p₁) →
-              Grown room t n u d.bones d.pool b p₁
-          grown room t d = subst (λ (y : Result ℕ Refusal). StretchTable y room t n d.bones d.pool b p₁) i d.table
-
-          as_stored :
-              (t : Tables) → used ≡ length t.bones → InOrder t →
-              Stores (pool_row (pointer - 16) block (length t.members) n) x p₁ p
-          as_stored t e o =
-              let k : used ≡ length t.members = e ∙ sym (ap length o ∙ length-up_from 0 (length t.bones)) in
-              subst (λ (f : ℕ). Stores (pool_row (pointer - 16) block f n) x p₁ p) k w
-
-          pub block-full : {y : Refusal} → x ≡ Err y → NewBlock sec pointer n used (Err y) b₀ b p₀ p
-          unfolding block_from
-          block-full f =
-              record {
-                reads =
-                    λ room t before o.
-                    let d = s.reads room t before in
-                    let ms = t.members ++ up_from (length t.bones) n in
-                    record {
-                      bones = t.bones;
-                      pool = t.pool;
-                      answer =
-                          rw (
-                            header-found,
-                            bones_read_lem room t d i,
-                            tables-full room (leaving t d.bones ms d.pool) (pointer - 16) block (rows (length t.members) n)
-                                (as_stored t before.count o) (grown room t d).lent.held f,
-                          )
-                          refl;
-                      table = tt;
-                    };
-              }
-
-          pub block-done : {v : Unit {0}} → x ≡ Ok v → NewBlock sec pointer n used (Ok (record { stored = record { first = used; count = n }; used = u })) b₀ b p₀ p
-          unfolding block_from
-          block-done f =
-              record {
-                reads =
-                    λ room t before o.
-                    let d = s.reads room t before in
-                    let v = grown room t d in
-                    let w' = as_stored t before.count o in
-                    let ms = t.members ++ up_from (length t.bones) n in
-                    let q = after w' v.lent.held in
-                    record {
-                      bones = d.bones;
-                      pool = q;
-                      answer =
-                          rw (
-                            header-found,
-                            bones_read_lem room t d i,
-                            tables-done room (leaving t d.bones ms d.pool) (pointer - 16) block
-                                (rows (length t.members) n) w' v.lent.held f,
-                          )
-                          (block_as n (λ (l : List ℕ). leaving t d.bones l q)
-                          (ap length o ∙ length-up_from 0 (length t.bones) ∙ sym before.count)
-                          (members-after t n (length d.bones) o v.more));
-                      table =
-                          record {
-                            lent = record { rows = v.lent.rows; held = put-done w' v.lent.held f };
-                            count = v.count;
-                            new = λ z. record { own = before.count; all = refl; more = v.count ∙ v.more };
-                          };
-                    };
-              }
+            pub block-done : {v : Unit {0}} → x ≡ Ok v →
+                NewBlock sec pointer n used (Ok (record { stored = record { first = used; count = n }; used = u })) b₀ b p₀ p
+            unfolding block_from
+            block-done f =
+                record {
+                  reads =
+                      λ room t before o.
+                      let d = s.reads room t before in
+                      let v = grown room t d in
+                      let w' = as_stored t before.count o in
+                      let ms = t.members ++ up_from (length t.bones) n in
+                      let q = after w' v.lent.held in
+                      record {
+                        bones = d.bones;
+                        pool = q;
+                        answer =
+                            rw (
+                              header-found,
+                              bones_read_lem room t d i,
+                              tables-done room (leaving t d.bones ms d.pool) (pointer - 16) block
+                                  (rows (length t.members) n) w' v.lent.held f,
+                            )
+                            (block_as n (λ (l : List ℕ). leaving t d.bones l q)
+                            (ap length o ∙ length-up_from 0 (length t.bones) ∙ sym before.count)
+                            (members-after t n (length d.bones) o v.more));
+                        table =
+                            record {
+                              lent = record { rows = v.lent.rows; held = put-done w' v.lent.held f };
+                              count = v.count;
+                              new = λ z. record { own = before.count; all = refl; more = v.count ∙ v.more };
+                            };
+                      };
+                }
 
 -- ---- `read_block`
 

@@ -1,7 +1,7 @@
 -- The ways out of `bone_from`, `new_bone` and `read_bone` (docs/FORMAT.md, "Records"). Assumes nothing.
-use Rattle.std.proofs.Common.{◌≡◌, ℕ, suc, ◌+◌, ◌/◌, ◌%◌, ◌<◌, ◌≤◌, Bool, true, false, eqb, List, [], ◌∷◌, ◌++◌, length, sym, refl, ap, ◌∙◌, subst, arith, length-append, length-drop, length-take, le-ltb, lt-ltb, eqb-true}
+use Rattle.std.proofs.Common.{◌≡◌, ℕ, suc, ◌+◌, ◌/◌, ◌%◌, ◌<◌, ◌≤◌, Bool, true, false, eqb, List, [], ◌∷◌, ◌++◌, length, sym, refl, ap, ◌∙◌, subst, arith, length-append, length-drop, length-take, take, drop, leb, leb-true, le-ltb, lt-ltb, eqb-true}
 use Rattle.std.specs.Prelude.{Some, Option, None, Result, Ok, Err}
-use Rattle.format.specs.Result.{refused, done, need}
+use Rattle.format.specs.Result.{refused, done, ◌>>=◌, need}
 use Rattle.format.specs.Refusal.{number}
 use Rattle.format.specs.declared.Refusal.{Refusal}
 use Rattle.format.specs.declared.Place.{Place}
@@ -15,10 +15,8 @@ use Rattle.format.specs.Rows.{place_of}
 use Rattle.format.specs.Read.{Step, read_name, bone_from, read_bone}
 use Rattle.format.proofs.Results.{gone}
 use Rattle.fields.proofs.Laws.{field_at-stands}
-use Rattle.blocks.specs.Places.{standing}
 use Rattle.blocks.specs.Pool.{pool_row, meant_cached, FindsAs, Stores}
 use Rattle.blocks.specs.declared.pool.Stored.{Stored}
-use Rattle.blocks.proofs.Standing.{bytes_at, part-standing, standing-done}
 use Rattle.blocks.proofs.Storing.{after, put-fits, put-done, tables-done, tables-full}
 use Rattle.rows.specs.Row.{has_row, put_row}
 use Rattle.rows.specs.Value.{meant_bone}
@@ -44,12 +42,19 @@ spot-low s va p e = by (eqb (va / window) 5) (eqb (va / window) 6) refl refl e
     by false false f g d = let z : ◌≡◌ {A = ℕ} 0 1 = cc in absurd (omega arith)
 
 pub part_stands : (s : Section) (va n : ℕ) (b : List ℕ) → part s va n ≡ done b → (length b ≡ n) × (va < 0x7000_0000)
-part_stands s va n b e =
-    gone (standing s va n) (λ p. done (bytes_at n p)) b (sym (part-standing s va n) ∙ e) λ p f g.
-    let h = standing-done s va n p f in
-    let i : bytes_at n p ≡ b = cc in
-    let l : length (bytes_at n p) ≡ n = simp (length-take, length-drop) (omega (arith, h.1)) in
-    (ap length (sym i) ∙ l, spot-low s va p h.0)
+unfolding part
+part_stands s va n b e = gone (spot s va) _ b e λ p f g. by p f (leb (p.offset + n) (length p.half)) refl g
+  where
+    by :
+        (p : Spot) → spot s va ≡ done p → (x : Bool) → leb (p.offset + n) (length p.half) ≡ x →
+        (need 11 x >>= λ u. done (take n (drop p.offset p.half))) ≡ done b → (length b ≡ n) × (va < 0x7000_0000)
+    by p f true i d =
+        let j : take n (drop p.offset p.half) ≡ b = cc in
+        let l : length (take n (drop p.offset p.half)) ≡ n =
+        simp (length-take, length-drop) (omega (arith, leb-true (p.offset + n) (length p.half) i))
+        in
+        (ap length (sym j) ∙ l, spot-low s va p f)
+    by p f false i d = let z : ◌≡◌ {A = ℕ} 0 1 = cc in absurd (omega arith)
 
 -- the row that 70 bytes hold
 row_of-bytes : (b : List ℕ) (n : Place) → length b ≡ 70 → bone_fields b n ≡ bone_row b (place_of n.address n.size)

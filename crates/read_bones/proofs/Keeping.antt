@@ -1,9 +1,11 @@
 -- Column 4 of the local matrices: the kept words of one row, and the loop of `keep_columns`. Assumes nothing.
-use Rattle.std.proofs.Common.{◌≡◌, ℕ, zero, suc, ◌+◌, ◌-◌, ◌*◌, ◌/◌, ◌<◌, ◌≤◌, List, [], ◌∷◌, ◌++◌, length, get_or, take, drop, set, replicate, sym, refl, ap, ◌∙◌, append_assoc, suc-add, zero-add, add-one, arith, length-drop, drop_of_length-le, length-take, get_or-drop, get_or-take, drop-drop}
+use Rattle.std.proofs.Common.{◌≡◌, ℕ, zero, suc, ◌+◌, ◌-◌, ◌*◌, ◌/◌, ◌<◌, ◌≤◌, List, [], ◌∷◌, ◌++◌, length, get_or, take, drop, set, replicate, sym, refl, ap, ◌∙◌, append_assoc, suc-add, zero-add, add-one, arith, length-drop, drop_of_length-le, length-take, get_or-drop, drop-drop}
 use mathlib.Core.List.{flat_map}
+use mathlib.Core.Logic.{⊎_elim}
+use Prim.Native.Nat.{min}
+use Rattle.blocks.proofs.Cases.{le-or-lt}
 use native.Mathlib.Nat.{sub-zero}
 use native.Mathlib.Numerals.{add-two, add-three}
-use lib.ListN.{get_or-eq_default}
 use lib.Seq.{sets, length-sets, take-append-le}
 use Rattle.format.specs.Section.{Place}
 use Rattle.format.specs.Bone.{Bone, Words4, words4, keeping}
@@ -34,16 +36,6 @@ pub sets_four :
     (t : List ℕ) (at x y z w : ℕ) →
     set (set (set (set t at x) (at + 1) y) (at + 2) z) (at + 3) w ≡ sets t at (x ∷ y ∷ z ∷ w ∷ [])
 sets_four t at x y z w = simp (add-one, add-two, add-three)
-
-module _ (l : List ℕ) (n i : ℕ) where
-  pub word-behind : n ≤ i → 0 ≡ get_or (take n l) i 0
-  word-behind h = let s : length (take n l) ≤ i = simp length-take (omega arith) in sym (get_or-eq_default (take n l) 0 s)
-
-  pub word_outside : length l ≤ i → 0 ≡ get_or (take n l) i 0
-  word_outside h = let s : length (take n l) ≤ i = simp length-take (omega arith) in sym (get_or-eq_default (take n l) 0 s)
-
-  pub word-inside : i < n → get_or l i 0 ≡ get_or (take n l) i 0
-  word-inside h = sym (rw get_or-take refl)
 
 -- ---- the kept words of one row
 
@@ -228,14 +220,9 @@ module _ {n words : ℕ} {local b₀ : List ℕ} {row : ℕ} {b : List ℕ} (g :
       let short : length M ≤ 16 * row = simp length-take (omega arith) in
       rw (drop_of_length-le M short) (no_matrix (up_from row (n - row)) bones)
 
-  pub keeping_all : n ≤ row → KeepsColumns n words local b₀ b
-  keeping_all l =
-      ended λ m bs h r k bones.
-      rw (up_from-none row (n - row) (omega arith)) (no_bone (drop (16 * row) (take words local)) bones)
-
-  pub keeping-no_row : length b₀ / bone_width ≤ row → KeepsColumns n words local b₀ b
-  keeping-no_row l =
+  pub keeping_end : min n (length b₀ / bone_width) ≤ row → KeepsColumns n words local b₀ b
+  keeping_end l =
       ended λ m bs h r k bones.
       let fits = laid-fits (words_of bs) b₀ h.rows in
-      let None : n - row ≡ 0 = omega (arith, length-words_of bs) in
-      rw (up_from-none row (n - row) None) (no_bone (drop (16 * row) (take words local)) bones)
+      let none : n - row ≡ 0 = ⊎_elim (λ s. omega arith) (λ s. omega (arith, length-words_of bs)) (le-or-lt n row) in
+      rw (up_from-none row (n - row) none) (no_bone (drop (16 * row) (take words local)) bones)

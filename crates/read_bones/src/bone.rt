@@ -10,7 +10,7 @@ ghost use Rattle.read_bones.specs.Bones.{words_at3, words_at4, bone_fields, Read
 use blocks::kinds::Kind;
 use blocks::places::Section;
 use blocks::pool;
-use blocks::pool::Stored;
+use blocks::pool::{Spot, Stored};
 use format::{Place, Refusal, Words3, Words4};
 use rows::Bone;
 
@@ -24,9 +24,9 @@ pub struct Row {
 // ---- names
 
 // The name at an address where nothing was read before: 10 and 11 for the address, 1 where the pool has no row for it. The search
-// for the address ended at row i of the pool.
-fn new_name(section: Section, va: u64, i: usize, pool: &mut [u64]) -> Result<Place, Refusal>
-    requires { PlacedAt pool.old va i }
+// for the address in the pool ended at the spot.
+fn new_name(section: Section, va: u64, spot: Spot, pool: &mut [u64]) -> Result<Place, Refusal>
+    requires { PlacedAt pool.old va spot }
     ensures { NewName (section_of section.entry) va result pool.old pool.new }
 {
     let name = section.name_at(va)?;
@@ -34,7 +34,7 @@ fn new_name(section: Section, va: u64, i: usize, pool: &mut [u64]) -> Result<Pla
         first: name.address,
         count: name.size,
     };
-    pool::put_at(pool, i, va, Kind::String, stored)?;
+    pool::put_at(pool, spot, va, Kind::String, stored)?;
     Ok(name)
 }
 
@@ -48,9 +48,9 @@ fn read_name(section: Section, va: u64, pool: &mut [u64]) -> Result<Place, Refus
             size: 0,
         });
     }
-    let i = pool::place(pool, va);
-    match pool::cached_at(pool, Kind::String, i)? {
-        None => new_name(section, va, i, pool),
+    let spot = pool::place(pool, va);
+    match pool::cached_at(pool, Kind::String, spot)? {
+        None => new_name(section, va, spot, pool),
         Some(stored) => Ok(Place {
             address: stored.first,
             size: stored.count,
@@ -58,7 +58,7 @@ fn read_name(section: Section, va: u64, pool: &mut [u64]) -> Result<Place, Refus
     }
 }
 
-// ---- the fields of a bone
+// ---- the fields of a bone (functions and no From: each lies at a place among the record's bytes)
 
 // Three words from `at` on.
 fn words3(b: &[u8], at: usize) -> Words3
@@ -123,12 +123,12 @@ fn bone_from(
 {
     let name = read_name(section, fields::read::<u64>(b, 56), pool)?;
     rows::put_bone(bones, used, bone_in(b, name))?;
-    let i = pool::place(pool, va);
+    let spot = pool::place(pool, va);
     let stored = Stored {
         first: used as u64,
         count: 1,
     };
-    pool::put_at(pool, i, va, Kind::Bone, stored)?;
+    pool::put_at(pool, spot, va, Kind::Bone, stored)?;
     Ok(Row {
         row: used as u64,
         used: used + 1,

@@ -11,10 +11,7 @@ fn word_in(local: &[u32], n: usize, i: usize) -> u32
     if n <= i {
         return 0;
     }
-    if local.len() <= i {
-        return 0;
-    }
-    local[i]
+    local.get(i).copied().unwrap_or(0)
 }
 
 // Stores the kept words of a row.
@@ -35,8 +32,7 @@ pub fn keep_columns(bones: &mut [u32], n: usize, local: &[u32], words: usize)
     ensures table { KeepsColumns n words local.now bones.old bones.new }
 {
     let rows = bones.len() / format::BONE_WORDS;
-    let mut row = 0;
-    while row < n && row < rows {
+    for row in 0..n.min(rows) {
         let at = format::MATRIX_WORDS * row;
         if words <= at {
             return;
@@ -46,6 +42,5 @@ pub fn keep_columns(bones: &mut [u32], n: usize, local: &[u32], words: usize)
         let z = word_in(local, words, at + format::COLUMN4_Z);
         let w = word_in(local, words, at + format::COLUMN4_W);
         put_kept(bones, row, x, y, z, w);
-        row += 1;
     }
 }

@@ -1,5 +1,6 @@
 // The bones block of a skeleton (docs/FORMAT.md, "Reading and writing a skeleton"; `SkeletonBonesBlock::read`). Two lent tables take
 // what is read: bones, 21 words a row, and the pool. A refusal leaves them as they happen to be: whoever lends them clears them.
+// (The table of bones is lent whole, with how many of its rows are used: the next row is stored behind them.)
 #![tactic(auto)]
 
 ghost use Rattle.std.specs.Prelude.{◌≡◌, ◌≤◌};

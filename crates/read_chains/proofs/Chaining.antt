@@ -13,6 +13,7 @@ use Rattle.format.specs.Section.{Section}
 use Rattle.format.specs.Tables.{Tables, Room}
 use Rattle.format.specs.Read.{link_to, read_chain, head_from, read_head}
 use Rattle.blocks.specs.Hashed.{PlacedAt}
+use Rattle.blocks.specs.declared.pool.Spot.{Spot}
 use Rattle.read_chains.specs.Lent.{entry_room, HoldsEntries, Comes}
 use Rattle.read_chains.specs.Entries.{no_row, meant_link, UnreadAt, LinksTo, ReadsEntry, ChainRead, ReadsChain, ReadsHead}
 use Rattle.read_chains.specs.declared.chains.Link.{Link}
@@ -89,13 +90,13 @@ module _ {sec : Section} {va used at row : ℕ} {e₀ e p₀ p : List ℕ} (g : 
         }
 
     -- where the search for the next entry ended
-    pub next-placed : {n : Unread} → s ≡ Ok (Some n) → PlacedAt p' n.address n.place
+    pub next-placed : {n : Unread} → s ≡ Ok (Some n) → PlacedAt p' n.address n.spot
     next-placed i = (stepped i).next
 
 -- ---- the head of a chain
 
 -- where the search for an unread entry ended
-pub link-placed : {p : List ℕ} {va n : ℕ} {x : Result Link Refusal} → LinksTo p va x → x ≡ Ok (L.Unread n) → PlacedAt p va n
+pub link-placed : {p : List ℕ} {va : ℕ} {n : Spot} {x : Result Link Refusal} → LinksTo p va x → x ≡ Ok (L.Unread n) → PlacedAt p va n
 link-placed {p} {va} m i = subst (λ (y : Result Link Refusal). UnreadAt p va y) i m.unread
 
 module _ (sec : Section) {va used : ℕ} {e₀ p₀ : List ℕ} {x : Result Link Refusal} (m : LinksTo p₀ va x) where
@@ -117,7 +118,7 @@ module _ (sec : Section) {va used : ℕ} {e₀ p₀ : List ℕ} {x : Result Link
   pub head_other : {y : Refusal} → x ≡ Err y → ReadsHead sec va used (Err y) e₀ e₀ p₀ p₀
   head_other {y} i = record { reads = λ h. linked h (refused (number y)) (ap meant_link i) }
 
-  module _ {n : ℕ} (i : x ≡ Ok (L.Unread n)) {r : Result ℕ Refusal} {e p : List ℕ} (c : ReadsChain sec va used r e₀ e p₀ p) where
+  module _ {n : Spot} (i : x ≡ Ok (L.Unread n)) {r : Result ℕ Refusal} {e p : List ℕ} (c : ReadsChain sec va used r e₀ e p₀ p) where
     -- the chain's outcome, and what the head makes of it
     reading :
         {room : Room} {t : Tables} (h : HoldsEntries room t used e₀ p₀) (o : Res Tables) →

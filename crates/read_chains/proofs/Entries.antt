@@ -9,6 +9,7 @@ use Rattle.format.specs.Section.{Section, part}
 use Rattle.format.specs.Tables.{entry, Rows, rows, Tables, find, as_kind}
 use Rattle.format.specs.Read.{link_of, link_to}
 use Rattle.blocks.specs.Hashed.{PlacedAt}
+use Rattle.blocks.specs.declared.pool.Spot.{Spot}
 use Rattle.blocks.specs.Pool.{FindsAs, meant_cached}
 use Rattle.blocks.specs.declared.pool.Stored.{Stored}
 use Rattle.read_chains.specs.Lent.{LinksFit}
@@ -53,7 +54,7 @@ module _ {p : List ℕ} {va : ℕ} (n : va ≡ 0 → ⊥) {x : Result (Option St
             f t l is ∙ sym (link-read va t n ∙ ap (λ (r : Res (Option Rows)). r >>= λ r. done (link_of r)) is);
       }
 
-  pub links-unread : x ≡ Ok None → {i : ℕ} → PlacedAt p va i → LinksTo p va (Ok (L.Unread i))
+  pub links-unread : x ≡ Ok None → {i : Spot} → PlacedAt p va i → LinksTo p va (Ok (L.Unread i))
   links-unread e g = links_by e g λ t l is. refl
 
   pub links_read_lem : {s : Stored} {k : ℕ} → x ≡ Ok (Some s) → k ≡ s.first % 4294967295 + 1 → LinksTo p va (Ok (L.To k))

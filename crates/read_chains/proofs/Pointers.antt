@@ -20,12 +20,13 @@ use Rattle.format.specs.Read.{read_head, read_buckets}
 use Rattle.format.proofs.Fields.{length-words, words_at_lem}
 use Rattle.fields.proofs.Laws.{field_at-stands}
 use Rattle.tables.proofs.Laid.{sets-laid}
-use Rattle.read_chains.specs.Lent.{HoldsEntries, HoldsChains, Comes}
+use Rattle.read_chains.specs.Lent.{SameTables, HoldsEntries, HoldsChains, Comes}
 use Rattle.read_chains.specs.Entries.{Headed, ReadsHead}
 use Rattle.read_chains.specs.Arrays.{ReadsBucket, ReadsPointers}
 use Rattle.std.specs.Prelude.{Result, Ok, Err}
 use Rattle.read_chains.specs.declared.chains.Head.{Head}
 use Rattle.read_chains.specs.declared.Used.{Used}
+use Rattle.read_chains.specs.declared.Tables as Lent
 use Rattle.read_chains.proofs.Kept.{head_kept}
 
 -- ---- one bucket
@@ -93,6 +94,24 @@ module _
                   holds = holds-bucket h (kept h) (headed i h).holds l hd.link;
                 };
           }
+
+-- ---- the tables lent
+
+pub same_none : (v : Lent.Tables) → SameTables v v
+same_none v =
+    record {
+      buckets = record { name = refl; size = refl };
+      entries = record { name = refl; size = refl };
+      pool = record { name = refl; size = refl };
+    }
+
+pub same-more : {v w x : Lent.Tables} → SameTables v w → SameTables w x → SameTables v x
+same-more s t =
+    record {
+      buckets = record { name = t.buckets.name ∙ s.buckets.name; size = t.buckets.size ∙ s.buckets.size };
+      entries = record { name = t.entries.name ∙ s.entries.name; size = t.entries.size ∙ s.entries.size };
+      pool = record { name = t.pool.name ∙ s.pool.name; size = t.pool.size ∙ s.pool.size };
+    }
 
 -- ---- the loop over the pointers
 

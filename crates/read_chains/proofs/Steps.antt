@@ -14,6 +14,7 @@ use Rattle.format.specs.Deriving.{entry_row}
 use Rattle.format.specs.Records.{entry_next}
 use Rattle.format.specs.Tables.{entry, rows, pooled, Tables, Room, with_pool, add_entry}
 use Rattle.format.specs.Read.{link_to, chain_from, read_chain}
+use Rattle.blocks.specs.declared.pool.Spot.{Spot}
 use Rattle.blocks.specs.Pool.{Stores}
 use Rattle.blocks.proofs.Storing.{after, put-done, tables-done, tables-full}
 use Rattle.read_chains.specs.Lent.{entry_room, HoldsEntries}
@@ -90,8 +91,8 @@ module _ (sec : Section) (va row : ℕ) {e₀ p₀ : List ℕ} {y : Result Entry
 
         -- the next entry is yet to be read: it will stand in the next row
         pub step_next :
-            {n k : ℕ} {e : List ℕ} → l ≡ Ok (L.Unread n) → k ≡ (row + 1) % 4294967295 + 1 →
-            e ≡ sets e₀ (3 * row) (f.tag ∷ f.position ∷ k ∷ []) → ReadsEntry sec va row (Ok (Some (record { address = f.next; place = n }))) e₀ e p₀ p
+            {n : Spot} {k : ℕ} {e : List ℕ} → l ≡ Ok (L.Unread n) → k ≡ (row + 1) % 4294967295 + 1 →
+            e ≡ sets e₀ (3 * row) (f.tag ∷ f.position ∷ k ∷ []) → ReadsEntry sec va row (Ok (Some (record { address = f.next; spot = n }))) e₀ e p₀ p
         step_next {n} {k} i j is =
             let low : row + 1 < 4294967295 = omega (arith, room_most (length e₀)) in
             let next : suc (suc row) ≡ k = omega (arith, link_row (row + 1) j low) in

@@ -54,7 +54,7 @@ Stepped sec room left g used e p (Err x) = g ≡ refused (number x)
 -- the search for the next entry ended at the row told
 abbrev pub NextAt : List ℕ → Result (Option Unread) Refusal → Type 0
 NextAt p (Ok None) = Unit {0}
-NextAt p (Ok (Some n)) = PlacedAt p n.address n.place
+NextAt p (Ok (Some n)) = PlacedAt p n.address n.spot
 NextAt p (Err x) = Unit {0}
 
 pub record ReadsEntry (sec : Section) (va row : ℕ) (r : Result (Option Unread) Refusal) (e₀ e p₀ p : List ℕ) : Type 0 where

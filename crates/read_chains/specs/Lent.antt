@@ -7,6 +7,14 @@ use Rattle.format.specs.Result.{Res, done}
 use Rattle.format.specs.Tables.{entry, Rows, Pooled, Tables, Room, find, as_kind}
 use Rattle.format.specs.Rows.{laid, entry_words}
 use Rattle.blocks.specs.Hashed.{Represents}
+use Rattle.tables.specs.Working.{SameTable}
+use Rattle.read_chains.specs.declared.Tables as declared
+
+-- the same tables are lent, each as long as it was
+pub record SameTables (v w : declared.Tables) : Type 0 where
+  pub buckets : SameTable v.buckets w.buckets
+  pub entries : SameTable v.entries w.entries
+  pub pool : SameTable v.pool w.pool
 
 -- How many rows an entries table of n words has. Links are 32-bit words: rows from 2 ^ 32 - 2 on are not used, so that the link
 -- to a row, and to the row behind it, is one. No section has so many addresses.

@@ -10,7 +10,7 @@ ghost use Rattle.read_chains.specs.Entries.{LinksTo, ReadsEntry, ReadsChain, Rea
 use blocks::kinds::Kind;
 use blocks::places::Section;
 use blocks::pool;
-use blocks::pool::Stored;
+use blocks::pool::{Spot, Stored};
 use format::{ENTRY_SIZE, ENTRY_WORDS, Refusal};
 use read_records::entry;
 
@@ -18,20 +18,20 @@ use read_records::entry;
 // more than 536,870,912 addresses.
 pub const MOST_ENTRIES: usize = 4294967294;
 
-// Where an address leads from an entry or a bucket.
+// Where an address leads from an entry or a bucket. (No Option: both cases are links, and each has a value.)
 #[derive(Clone, Copy)]
 enum Link {
     // the link: 0, or one more than the row of an entry already read
     To(u32),
-    // an entry that is yet to be read, and the row of the pool at which the search for it ended
-    Unread(usize),
+    // an entry that is yet to be read, and where the search for it in the pool ended
+    Unread(Spot),
 }
 
-// An entry that is yet to be read: its address, and the row of the pool at which the search for it ended.
+// An entry that is yet to be read: its address, and where the search for it in the pool ended.
 #[derive(Clone, Copy)]
 struct Unread {
     address: u64,
-    place: usize,
+    spot: Spot,
 }
 
 // The link to the first entry of a bucket's chain, and how many rows of entries are used now.
@@ -62,10 +62,10 @@ fn link_to(pool: &[u64], va: u64) -> Result<Link, Refusal>
     if va == 0 {
         return Ok(Link::To(0));
     }
-    let place = pool::place(pool, va);
-    match pool::cached_at(pool, Kind::Entry, place)? {
+    let spot = pool::place(pool, va);
+    match pool::cached_at(pool, Kind::Entry, spot)? {
         Some(stored) => Ok(Link::To(link_of(stored.first))),
-        None => Ok(Link::Unread(place)),
+        None => Ok(Link::Unread(spot)),
     }
 }
 
@@ -90,7 +90,7 @@ fn read_entry(
     row: usize,
     pool: &mut [u64],
 ) -> Result<Option<Unread>, Refusal>
-    requires { (row < entry_room (length entries.old)) × PlacedAt pool.old unread.address unread.place }
+    requires { (row < entry_room (length entries.old)) × PlacedAt pool.old unread.address unread.spot }
     ensures { ReadsEntry (section_of section.entry) unread.address row result
         entries.old entries.new pool.old pool.new }
 {
@@ -99,18 +99,18 @@ fn read_entry(
         first: row as u64,
         count: 1,
     };
-    pool::put_at(pool, unread.place, unread.address, Kind::Entry, stored)?;
+    pool::put_at(pool, unread.spot, unread.address, Kind::Entry, stored)?;
     match link_to(pool, entry.next)? {
         Link::To(link) => {
             store(entries, row, entry.tag, entry.position, link);
             Ok(None)
         }
-        Link::Unread(place) => {
+        Link::Unread(spot) => {
             let link = link_of((row + 1) as u64);
             store(entries, row, entry.tag, entry.position, link);
             Ok(Some(Unread {
                 address: entry.next,
-                place,
+                spot,
             }))
         }
     }
@@ -125,7 +125,7 @@ fn read_chain(
     used: usize,
     pool: &mut [u64],
 ) -> Result<usize, Refusal>
-    requires { PlacedAt pool.old first.address first.place }
+    requires { PlacedAt pool.old first.address first.spot }
     ensures { ReadsChain (section_of section.entry) first.address used result
         entries.old entries.new pool.old pool.new }
 {
@@ -154,8 +154,8 @@ pub fn read_head(
 {
     match link_to(pool, va)? {
         Link::To(link) => Ok(Head { link, used }),
-        Link::Unread(place) => {
-            let first = Unread { address: va, place };
+        Link::Unread(spot) => {
+            let first = Unread { address: va, spot };
             let now = read_chain(section, first, entries, used, pool)?;
             Ok(Head {
                 link: link_of(used as u64),

@@ -5,6 +5,9 @@
 #![tactic(auto)]
 
 ghost use Rattle.blocks.specs.Places.{section_of};
+ghost use Rattle.blocks.specs.Pool.{FindsAs};
+ghost use Rattle.format.specs.Tables.{buckets};
+ghost use Rattle.read_chains.specs.Lent.{SameTables};
 ghost use Rattle.read_chains.specs.Arrays.{ReadsBucket, ReadsPointers, ReadsNewArray, ReadsBuckets};
 
 use blocks::kinds::Kind;
@@ -32,24 +35,26 @@ pub struct Buckets {
     pub used: Used,
 }
 
+// The lent tables that chains are read into.
+#[derive(Drop)]
+pub struct Tables<'a> {
+    pub buckets: &'a mut [u32],
+    pub entries: &'a mut [u32],
+    pub pool: &'a mut [u64],
+}
+
 // The bucket of one pointer, stored in a row after its chain: what the chain refuses, then 1.
-fn read_bucket(
-    section: Section,
-    va: u64,
-    buckets: &mut [u32],
-    entries: &mut [u32],
-    used: Used,
-    pool: &mut [u64],
-) -> Result<Used, Refusal>
-    ensures { ReadsBucket (section_of section.entry) va used.buckets used.entries result
-        buckets.old buckets.new
-        entries.old entries.new pool.old pool.new }
+fn read_bucket(section: Section, va: u64, tables: &mut Tables, used: Used) -> Result<Used, Refusal>
+    ensures tables { ReadsBucket (section_of section.entry) va used.buckets used.entries result
+        tables.old.buckets.now tables.new.buckets.now
+        tables.old.entries.now tables.new.entries.now tables.old.pool.now tables.new.pool.now }
+    ensures same { SameTables tables.old tables.new }
 {
-    let head = chains::read_head(section, va, entries, used.entries, pool)?;
-    if used.buckets >= buckets.len() {
+    let head = chains::read_head(section, va, tables.entries, used.entries, tables.pool)?;
+    if used.buckets >= tables.buckets.len() {
         return Err(Refusal::TableTooShort);
     }
-    buckets[used.buckets] = head.link;
+    tables.buckets[used.buckets] = head.link;
     Ok(Used {
         buckets: used.buckets + 1,
         entries: head.used,
@@ -60,19 +65,18 @@ fn read_bucket(
 fn read_pointers(
     section: Section,
     bytes: &[u8],
-    buckets: &mut [u32],
-    entries: &mut [u32],
+    tables: &mut Tables,
     used: Used,
-    pool: &mut [u64],
 ) -> Result<Used, Refusal>
-    ensures { ReadsPointers (section_of section.entry) bytes.now used.buckets used.entries result
-        buckets.old buckets.new
-        entries.old entries.new pool.old pool.new }
+    ensures tables { ReadsPointers (section_of section.entry) bytes.now used.buckets used.entries result
+        tables.old.buckets.now tables.new.buckets.now
+        tables.old.entries.now tables.new.entries.now tables.old.pool.now tables.new.pool.now }
+    ensures same { SameTables tables.old tables.new }
 {
     let mut now = used;
     for i in 0..bytes.len() / POINTER {
         let va = fields::read::<u64>(bytes, POINTER * i);
-        now = read_bucket(section, va, buckets, entries, now, pool)?;
+        now = read_bucket(section, va, tables, now)?;
     }
     Ok(now)
 }
@@ -82,23 +86,29 @@ fn read_new(
     section: Section,
     va: u64,
     count: u16,
-    buckets: &mut [u32],
-    entries: &mut [u32],
+    tables: &mut Tables,
     used: Used,
-    pool: &mut [u64],
 ) -> Result<Buckets, Refusal>
-    ensures { ReadsNewArray (section_of section.entry) va count used.buckets used.entries result
-        buckets.old buckets.new
-        entries.old entries.new pool.old pool.new }
+    ensures tables { ReadsNewArray (section_of section.entry) va count used.buckets used.entries result
+        tables.old.buckets.now tables.new.buckets.now
+        tables.old.entries.now tables.new.entries.now tables.old.pool.now tables.new.pool.now }
+    ensures same { SameTables tables.old tables.new }
 {
     let bytes = section.array(va, POINTER * (count as usize))?;
-    let now = read_pointers(section, bytes, buckets, entries, used, pool)?;
+    let now = read_pointers(section, bytes, tables, used)?;
     let stored = Stored {
         first: used.buckets as u64,
         count: count as u64,
     };
-    pool::put(pool, va, Kind::Buckets, stored)?;
+    pool::put(tables.pool, va, Kind::Buckets, stored)?;
     Ok(Buckets { stored, used: now })
+}
+
+// The array that the pool has at an address; 12 where another kind was read there.
+fn pooled(tables: &Tables, va: u64) -> Result<Option<Stored>, Refusal>
+    ensures answer { FindsAs tables.now.pool.now buckets va result }
+{
+    pool::cached_as(tables.pool, Kind::Buckets, va)
 }
 
 // The bucket array of so many pointers at an address, none at address 0; the `used` rows of buckets and of entries stand before.
@@ -109,21 +119,20 @@ pub fn read_buckets(
     section: Section,
     va: u64,
     count: u16,
-    buckets: &mut [u32],
-    entries: &mut [u32],
+    tables: &mut Tables,
     used: Used,
-    pool: &mut [u64],
 ) -> Result<Option<Buckets>, Refusal>
     ensures tables { ReadsBuckets (section_of section.entry) va count used.buckets used.entries result
-        buckets.old buckets.new
-        entries.old entries.new pool.old pool.new }
+        tables.old.buckets.now tables.new.buckets.now
+        tables.old.entries.now tables.new.entries.now tables.old.pool.now tables.new.pool.now }
+    ensures same { SameTables tables.old tables.new }
 {
     if va == 0 {
         return Ok(None);
     }
-    if let Some(stored) = pool::cached_as(pool, Kind::Buckets, va)? {
+    if let Some(stored) = pooled(tables, va)? {
         return Ok(Some(Buckets { stored, used }));
     }
-    let new = read_new(section, va, count, buckets, entries, used, pool)?;
+    let new = read_new(section, va, count, tables, used)?;
     Ok(Some(new))
 }

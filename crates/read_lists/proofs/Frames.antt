@@ -15,7 +15,7 @@ use Rattle.format.specs.Tables.{Rows, rows, Pooled, pooled, Lists, Tables, table
 use Rattle.format.specs.Tables.{words_in, longer, add_words, list_at, find, put}
 use Rattle.format.specs.Read.{store_list, read_new, read_list}
 use Rattle.format.proofs.Results.{gone}
-use Rattle.blocks.specs.Pool.{enter}
+use Rattle.blocks.specs.Pool.{enter, meant_rows}
 use Rattle.blocks.proofs.Entering.{put-enter}
 use Rattle.read_lists.specs.Lists.{twin, Inside, ListsStand}
 use Rattle.read_lists.specs.Pooling.{way_of}
@@ -118,10 +118,11 @@ module _ (s : Section) (room : Room) (l : ListTable) (va n : ℕ) (t u : Tables)
       let q : ◌≡◌ {A = Option Rows × Tables} (a, x) (o, u) = cc in ap (λ (y : Option Rows × Tables). y.1) q
 
   way_framed : (w : Way) → goes s room l va n t w ≡ done (o, u) → Framed l t u
-  way_framed (Again f c) e = subst (Framed l t) (second e) (framed_none l t)
-  way_framed (Copy f c) e =
-      gone (store_list s room l (list_at (twin l) (rows f c) t) t) _ (o, u) e λ x q e₁.
-      subst (Framed l t) (second e₁) (framed_added (store_adds s room l (list_at (twin l) (rows f c) t) t x.1 x.0 q))
+  way_framed (Again x) e = subst (Framed l t) (second e) (framed_none l t)
+  way_framed (Copy y) e =
+      let from = list_at (twin l) (meant_rows y) t in
+      gone (store_list s room l from t) _ (o, u) e λ x q e₁.
+      subst (Framed l t) (second e₁) (framed_added (store_adds s room l from t x.1 x.0 q))
   way_framed Over e =
       gone (read_new s room l va n t) _ (o, u) e λ x q e₁.
       subst (Framed l t) (second e₁) (framed_added (new_adds s room l va n t x.1 x.0 q))

@@ -12,10 +12,12 @@ use Rattle.format.specs.Result.{done, ◌>>=◌}
 use Rattle.format.specs.Section.{Section}
 use Rattle.format.specs.Tables.{ListTable, inverse_table, local_table, parents_table, children_table, table_number, list_kind}
 use Rattle.format.specs.Tables.{Kind, skeleton, buckets, entry, block, bone, string, list, same_kind}
-use Rattle.format.specs.Tables.{Rows, rows, Pooled, Lists, Tables, Room, words_in, list_at, find, put}
+use Rattle.format.specs.Tables.{Rows, Pooled, Lists, Tables, Room, words_in, list_at, find, put}
 use Rattle.format.specs.Read.{Step, store_list, read_new, given_again, read_over, read_over_kind, list_from, read_list}
 use Rattle.read_lists.specs.Lists.{twin, Inside, ListsStand}
-use Rattle.read_lists.specs.Pooling.{way_by, way_over, way_of}
+use Rattle.blocks.specs.Pool.{meant_rows}
+use Rattle.blocks.specs.declared.pool.Stored.{Stored}
+use Rattle.read_lists.specs.Pooling.{stored_rows, way_by, way_over, way_of}
 use Rattle.read_lists.specs.declared.pooling.Way.{Way}
 use Rattle.read_lists.specs.declared.pooling.Way.TheVariants.{Again, Copy, Over, New}
 
@@ -53,8 +55,8 @@ pooling room l va g = g >>= λ x. put room va (list l) x.0 x.1 >>= λ t. done (S
 module _ (s : Section) (room : Room) (l : ListTable) (va n : ℕ) (u : Tables) where
   -- what each way comes to
   abbrev pub goes : Way → Step (Option Rows)
-  goes (Again f c) = done (Some (rows f c), u)
-  goes (Copy f c) = stands (store_list s room l (list_at (twin l) (rows f c) u) u)
+  goes (Again x) = done (Some (meant_rows x), u)
+  goes (Copy x) = stands (store_list s room l (list_at (twin l) (meant_rows x) u) u)
   goes Over = stands (read_new s room l va n u)
   goes New = pooling room l va (read_new s room l va n u)
 
@@ -95,18 +97,19 @@ module _ (s : Section) (room : Room) (l : ListTable) (va n : ℕ) (u : Tables) w
 
 -- it lies in the other table
 copy_inside :
-    (l : ListTable) (t : Lists) {f c : ℕ} (k : Kind) (x : Rows) → way_over l k x ≡ Copy f c → Inside k x t →
-    f + c ≤ length (words_in (twin l) t)
-copy_inside l t {f} {c} (list o) x e h = by (same_kind (list o) (list l)) (eqb (table_number l) (table_number o)) refl refl e
+    (l : ListTable) (t : Lists) {y : Stored} (k : Kind) (x : Rows) → way_over l k x ≡ Copy y → Inside k x t →
+    y.first + y.count ≤ length (words_in (twin l) t)
+copy_inside l t {y} (list o) x e h = by (same_kind (list o) (list l)) (eqb (table_number l) (table_number o)) refl refl e
   where
     by :
-        (b d : Bool) → same_kind (list o) (list l) ≡ b → eqb (table_number l) (table_number o) ≡ d → way_by b d x ≡ Copy f c →
-        f + c ≤ length (words_in (twin l) t)
+        (b d : Bool) → same_kind (list o) (list l) ≡ b → eqb (table_number l) (table_number o) ≡ d → way_by b d x ≡ Copy y →
+        y.first + y.count ≤ length (words_in (twin l) t)
     by true true p q w = let z : ◌≡◌ {A = ℕ} 0 1 = cc in absurd (omega arith)
     by true false p q w =
         let is : o ≡ twin l = twin_of l o (eqb-true (list_kind o) (list_kind l) p) (eqb-false (table_number l) (table_number o) q) in
-        let a : x.first ≡ f = cc in
-        let b : x.count ≡ c = cc in
+        let s : stored_rows x ≡ y = cc in
+        let a : x.first ≡ y.first = ap (λ (z : Stored). z.first) s in
+        let b : x.count ≡ y.count = ap (λ (z : Stored). z.count) s in
         rw (a, b, is) at h
     by false d p q w = let z : ◌≡◌ {A = ℕ} 0 1 = cc in absurd (omega arith)
 copy_inside l t skeleton x e h = let z : ◌≡◌ {A = ℕ} 0 1 = cc in absurd (omega arith)
@@ -117,10 +120,10 @@ copy_inside l t bone x e h = let z : ◌≡◌ {A = ℕ} 0 1 = cc in absurd (ome
 copy_inside l t string x e h = let z : ◌≡◌ {A = ℕ} 0 1 = cc in absurd (omega arith)
 
 pub copy_found :
-    (l : ListTable) (va : ℕ) (u : Tables) {f c : ℕ} → ListsStand u → way_of l (find va u.pool) ≡ Copy f c →
-    f + c ≤ length (words_in (twin l) u.lists)
-copy_found l va u {f} {c} h e = by (find va u.pool) refl e
+    (l : ListTable) (va : ℕ) (u : Tables) {y : Stored} → ListsStand u → way_of l (find va u.pool) ≡ Copy y →
+    y.first + y.count ≤ length (words_in (twin l) u.lists)
+copy_found l va u {y} h e = by (find va u.pool) refl e
   where
-    by : (o : Option Pooled) → find va u.pool ≡ o → way_of l o ≡ Copy f c → f + c ≤ length (words_in (twin l) u.lists)
+    by : (o : Option Pooled) → find va u.pool ≡ o → way_of l o ≡ Copy y → y.first + y.count ≤ length (words_in (twin l) u.lists)
     by None d w = let z : ◌≡◌ {A = ℕ} 0 1 = cc in absurd (omega arith)
     by (Some p) d w = copy_inside l u.lists p.kind p.stored w (h.stand va p d)

@@ -1,5 +1,4 @@
 pub mod Taking
-pub mod Ways
 pub mod Standing
 pub mod Leading
 pub mod Frames

@@ -1,6 +1,6 @@
 -- What a caller learns of an answer: what the reading of the list gives, and what stands in the tables then. Assumes nothing.
 use mathlib.Core.Path.{◌≡◌, sym, ap, ◌∙◌}
-use Rattle.std.specs.Prelude.{Option, None, Some}
+use Rattle.std.specs.Prelude.{Option, None, Some, Result, Ok, Err}
 use mathlib.Core.List.{List}
 use Prim.Native.Nat.{ℕ}
 use native.Mathlib.Omega.{arith}
@@ -8,12 +8,12 @@ use lib.ListN.{length}
 use Rattle.format.specs.Result.{refused, done}
 use Rattle.format.specs.Refusal.{number}
 use Rattle.format.specs.declared.Refusal.{Refusal}
-use Rattle.format.specs.Tables.{ListTable, Rows, rows, Tables, words_in}
+use Rattle.format.specs.Tables.{ListTable, Rows, Tables, words_in}
 use Rattle.format.specs.Read.{Step}
 use Rattle.read_lists.specs.Lists.{meant_listed}
 use Rattle.read_lists.specs.Reads.{list_given, ListTableLeft, HoldsList, ListComes}
-use Rattle.read_lists.specs.declared.Listed.{Listed}
-use Rattle.read_lists.specs.declared.Listed.TheVariants.{Absent, At, Refused}
+use Rattle.blocks.specs.Pool.{meant_rows}
+use Rattle.read_lists.specs.declared.List as ours
 use Rattle.read_lists.proofs.Reading.{both_same}
 
 -- the reading gives the list o, and then m words of its table are used
@@ -36,13 +36,14 @@ refused_by l (refused d) e = cc
 refused_by l (done (s, u)) e = let z : ◌≡◌ {A = ℕ} 0 1 = cc in absurd (omega arith)
 
 module _
-    {l : ListTable} {n : ℕ} {g : Step (Option Rows)} {used : ℕ} {r : Listed} {t₀ t p : List ℕ} (c : ListComes l n g used r t₀ t p)
+    {l : ListTable} {n : ℕ} {g : Step (Option Rows)} {used : ℕ} {r : Result (Option ours.List) Refusal} {t₀ t p : List ℕ}
+    (c : ListComes l n g used r t₀ t p)
   where
-    pub list-refused : {x : Refusal} → r ≡ Refused x → g ≡ refused (number x)
+    pub list-refused : {x : Refusal} → r ≡ Err x → g ≡ refused (number x)
     list-refused e = refused_by l g (sym (ap (meant_listed used) e) ∙ c.answer)
 
-    pub list_absent : r ≡ Absent → Gives l n g None used t₀ t p
+    pub list_absent : r ≡ Ok None → Gives l n g None used t₀ t p
     list_absent e = gives_by g (sym (ap (meant_listed used) e) ∙ c.answer) c.tables
 
-    pub list_at : {f k m : ℕ} → r ≡ At f k m → Gives l n g (Some (rows f k)) m t₀ t p
+    pub list_at : {x : ours.List} → r ≡ Ok (Some x) → Gives l n g (Some (meant_rows x.stored)) x.used t₀ t p
     list_at e = gives_by g (sym (ap (meant_listed used) e) ∙ c.answer) c.tables

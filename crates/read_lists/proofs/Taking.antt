@@ -1,162 +1,172 @@
--- Laws of words stored as new rows. In order: words that are stored; whether they fit; those of a table; the array that the bytes come
--- from; the ways out. The runs are those of `fields`. Assumes nothing.
+-- Laws of words stored as new rows. In order: words that fit, and words that do not; a run stored in the rows of a table, over the numbers
+-- of its words; a list copied; a list read anew. The runs are those of `fields`. Assumes nothing.
 use mathlib.Core.Path.{◌≡◌, refl, sym, ap, ◌∙◌}
-use mathlib.Core.Logic.{⊎_elim}
-use mathlib.Core.Bool.{Bool, true, false}
-use mathlib.Core.List.{List}
-use Prim.Native.Nat.{ℕ, zero, suc, ◌+◌, ◌-◌, ◌*◌, ◌≤◌, ◌<◌}
-use native.Mathlib.Nat.{mul-suc, mul-le-mul_left}
+use mathlib.Core.Bool.{Bool, true, false, ◌&&◌}
+use Rattle.std.specs.Prelude.{Result, Ok, Err}
+use mathlib.Core.List.{List, [], ◌∷◌, ◌++◌, map}
+use Prim.Native.Nat.{ℕ, suc, ◌+◌, ◌*◌, ◌/◌, ◌≤◌, ◌<◌}
+use native.Mathlib.Nat.{le_refl, mul-div-le}
 use native.Mathlib.Omega.{arith}
-use borrow.Author.Tests.{le-leb, lt-leb, lt-ltb, le-ltb, ltb-true, ltb-false}
-use lib.Dec.{leb, ltb}
-use lib.ListN.{length, take, drop, length-drop, take-append-drop}
-use lib.Seq.{sets, length-take-le, ext_get_or}
+use borrow.Author.Tests.{le-leb, lt-leb, leb-true, leb-false}
+use lib.Dec.{leb}
+use lib.ListN.{length, take, drop, set, length-set, length-drop, take-append-drop}
+use lib.Seq.{sets, length-take-le}
+use Rattle.std.proofs.lemmas.List.{map-set, set-append_left}
+use Rattle.std.proofs.lemmas.Nat.{mul-le}
+use Rattle.std.proofs.Common.{Fits, w64}
 use Rattle.format.specs.Result.{done}
-use Rattle.format.specs.Field.{words}
+use Rattle.format.specs.Field.{stands, which_list, words}
 use Rattle.format.specs.declared.Refusal.{Refusal}
 use Rattle.format.specs.declared.Refusal.TheVariants.{TableTooShort}
-use Rattle.format.specs.Section.{Section, part, array}
-use Rattle.format.proofs.Fields.{length-words, words_at_lem, field-within}
-use Rattle.blocks.specs.Places.{bytes_of, Locates}
-use Rattle.blocks.specs.declared.places.Located.{Located}
-use Rattle.blocks.specs.declared.places.Located.TheVariants.{System, Graphics, Refused as NotLocated}
-use Rattle.blocks.proofs.Cases.{le-or-lt}
-use Rattle.blocks.proofs.Standing.{system-stands, graphics-stands}
-use Rattle.read_lists.specs.Storing.{Within, Arrays, Takes, Copies, ReadsNewList}
-use Rattle.read_lists.specs.declared.Listed.{Listed}
-use Rattle.read_lists.specs.declared.Listed.TheVariants.{At, Refused}
-use Rattle.fields.specs.Runs.{loaded, copied}
-use Rattle.fields.proofs.RunLaws.{loaded-stands, copied-stands, length_part}
+use Rattle.format.specs.Section.{Section, array}
+use Rattle.fields.specs.Runs.{loads, loaded, copies, copied}
+use Rattle.fields.proofs.RunLaws.{length_part, length-each, part-each}
+use Rattle.fields.proofs.WordLists.{length-words}
+use Rattle.read_lists.specs.Storing.{Takes, Copies, ReadsNewList}
+use Rattle.read_lists.specs.declared.List as ours
 
--- ---- words that are stored
+-- the m words behind `used` others
+abbrev pub behind : ℕ → ℕ → ours.List
+behind used m = record { stored = record { first = used; count = m }; used = used + m }
 
 -- all of the m words w, which fit
-pub takes-stored :
-    (w : List ℕ) {m room used : ℕ} (t₀ : List ℕ) {t : List ℕ} → length w ≡ m → used + m ≤ room → t ≡ sets t₀ used w →
-    Takes w room used (At used m (used + m)) t₀ t
-takes-stored w {m} {room} {used} t₀ n h e =
+takes-stored :
+    (w : List ℕ) {m room used : ℕ} {t₀ t : List ℕ} → length w ≡ m → used + m ≤ room → t ≡ sets t₀ used w →
+    Takes w room used (Ok (behind used m)) t₀ t
+takes-stored w {m} {room} {used} n h e =
     let yes : leb (used + length w) room ≡ true = le-leb (used + length w) room (omega arith) in
     record { answer = rw yes (simp n); table = rw yes e }
 
--- m words of k bytes, loaded as a run
-pub takes-loaded :
-    (k m : ℕ) (s : List ℕ) (at : ℕ) {room used : ℕ} (t₀ : List ℕ) {t : List ℕ} → at + k * m ≤ length s → used + m ≤ room →
-    room ≤ length t₀ → t ≡ loaded (λ l. l) k m s at t₀ used → Takes (words k m (drop at s)) room used (At used m (used + m)) t₀ t
-takes-loaded k m s at {room} {used} t₀ h l r e =
-    takes-stored (words k m (drop at s)) t₀ (length-words k m (drop at s)) l
-    (e ∙ loaded-stands k m s at t₀ used h (omega arith))
-
--- ---- words that do not fit
-
--- the code compares with what is left behind `at`, so that no sum can wrap
-pub past-left : (room at m : ℕ) → at ≤ room → ltb (room - at) m ≡ ltb room (at + m)
-past-left room at m h =
-    ⊎_elim
-    (λ (l : at + m ≤ room). le-ltb (room - at) m (omega arith) ∙ sym (le-ltb room (at + m) l))
-    (λ (l : room < at + m). lt-ltb (room - at) m (omega arith) ∙ sym (lt-ltb room (at + m) l))
-    (le-or-lt (at + m) room)
-
--- what its test tells
-module _ (room at m : ℕ) {b : Bool} (e : b ≡ ltb room (at + m)) where
-  pub past_true : b ≡ true → room < at + m
-  past_true d = ltb-true room (at + m) (sym e ∙ d)
-
-  pub past_false : b ≡ false → at + m ≤ room
-  past_false d = ltb-false room (at + m) (sym e ∙ d)
-
-pub takes-short :
-    (w : List ℕ) {m room used : ℕ} (t : List ℕ) → length w ≡ m → room < used + m → Takes w room used (Refused TableTooShort) t t
-takes-short w {m} {room} {used} t e h =
+takes-short :
+    (w : List ℕ) {m room used : ℕ} {t₀ t : List ℕ} → length w ≡ m → room < used + m → t ≡ t₀ →
+    Takes w room used (Err TableTooShort) t₀ t
+takes-short w {m} {room} {used} n h e =
     let not : leb (used + length w) room ≡ false = lt-leb (used + length w) room (omega arith) in
-    record { answer = rw not refl; table = rw not refl }
+    record { answer = rw not refl; table = rw not e }
 
--- ---- words of a table
+-- ---- what the test of a run tells
 
-module _ (s : List ℕ) {first count room used : ℕ} {t₀ : List ℕ} where
-  pub copies-short : room < used + count → Copies s first count room used (Refused TableTooShort) t₀ t₀
-  copies-short h =
-      record {
-        copied = λ l. takes-short (take count (drop first s)) t₀ (length_part s first count l) h;
-        missing = λ _. (refl, refl);
-      }
+on : {A : Type 0} {x z : List A} (b : Bool) (y : List A) → true ≡ b → z ≡ which_list b x y → z ≡ x
+unfolding which_list
+on b y e h = rw (← e) at h
 
-  pub copies-done :
-      {t : List ℕ} → first + count ≤ length s → used + count ≤ room → room ≤ length t₀ → t ≡ copied count s first t₀ used →
-      Copies s first count room used (At used count (used + count)) t₀ t
-  copies-done h l r e =
-      record {
-        copied =
-            λ _.
-            takes-stored (take count (drop first s)) t₀ (length_part s first count h) l
-            (e ∙ copied-stands count s first t₀ used h (omega arith));
-        missing = λ m. absurd (omega (arith, h, m));
-      }
+off : {A : Type 0} {y z : List A} (b : Bool) (x : List A) → false ≡ b → z ≡ which_list b x y → z ≡ y
+unfolding which_list
+off b x e h = rw (← e) at h
 
-  pub copies-past : length s < first + count → Copies s first count room used (Refused TableTooShort) t₀ t₀
-  copies-past h = record { copied = λ l. absurd (omega arith); missing = λ _. (refl, refl) }
+both : (p q : Bool) → true ≡ (p && q) → (p ≡ true) × (q ≡ true)
+both true q e = (refl, sym e)
+both false q e = (sym e, absurd (cc e))
 
--- ---- arrays
+second : (p q : Bool) → false ≡ (p && q) → p ≡ true → q ≡ false
+second p q e d = rw d at (sym e)
 
-pub arrays_none : (s : Section) (va : ℕ) {n : ℕ} → n ≡ 0 → Arrays s va n (System 0)
-unfolding array
-arrays_none s va e = rw e (record { bytes = refl; within = omega arith })
+-- ---- a run stored in the rows of a table, which are its first words
 
-within_by : {s : Section} {va n : ℕ} {r : Located} → Locates s va n r → (x : Located) → r ≡ x → Within s n x
-within_by l (System o) e = system-stands l e
-within_by l (Graphics o) e = graphics-stands l e
-within_by l (NotLocated x) e = tt
+sets-front : {A : Type 0} (w x y : List A) (i : ℕ) → i + length w ≤ length x → sets x i w ++ y ≡ sets (x ++ y) i w
+sets-front [] x y i h = refl
+sets-front (a ∷ w) x y i h =
+    sets-front w (set x i a) y (suc i) (simp length-set (omega arith))
+    ∙ ap (λ z. sets z (suc i) w) (sym (set-append_left x y i a (omega arith)))
 
-array-part : (s : Section) (va n : ℕ) → (n ≡ 0 → ⊥) → array s va n ≡ part s va n
-unfolding array
-array-part s va zero h = absurd (h refl)
-array-part s va (suc n) h = refl
+map-sets : {A B : Type 0} (f : A → B) (w t : List A) (i : ℕ) → map f (sets t i w) ≡ sets (map f t) i (map f w)
+map-sets f [] t i = refl
+map-sets f (a ∷ w) t i = map-sets f w (set t i a) (suc i) ∙ ap (λ z. sets z (suc i) (map f w)) (map-set f t i a)
 
-pub arrays_located : {s : Section} {va n : ℕ} {r : Located} → (n ≡ 0 → ⊥) → Locates s va n r → Arrays s va n r
-arrays_located {s} {va} {n} {r} h l =
-    record { bytes = l.bytes ∙ sym (array-part s va n h); within = within_by l r refl }
+module _
+    {A : Type 0} {number : A → ℕ} {numbers : List A → List ℕ} (each : (l : List A) → map number l ≡ numbers l) (t : List A) (row : ℕ)
+    {r : ℕ} (rows : r ≡ row * (length t / row))
+  where
+    within : r ≤ length t
+    within = omega (arith, rows, mul-div-le (length t) row)
 
--- ---- the ways out of reading an array anew
+    size : length (take r t) ≡ r
+    size = length-take-le r t within
 
-word_within_lem : (k m i : ℕ) → i < m → k * i + k ≤ k * m
-word_within_lem k m i l = rw (← mul-suc) (mul-le-mul_left k l)
+    rows-kept : {x : List A} → x ≡ take r t → numbers (x ++ drop r t) ≡ numbers t
+    rows-kept e = ap numbers (rw e (take-append-drop r t))
 
--- the words of some bytes need no more bytes than those
-words-part : (k m : ℕ) (s : List ℕ) → k * m ≤ length s → words k m (take (k * m) s) ≡ words k m s
-words-part k m s h =
-    ext_get_or 0 (words k m (take (k * m) s)) (words k m s) (length-words k m (take (k * m) s) ∙ sym (length-words k m s))
-    λ i l.
-    let j : i < m = omega (arith, length-words k m (take (k * m) s)) in
-    let n = word_within_lem k m i j in
-    let inside : k * i + k ≤ length (take (k * m) s) = rw (length-take-le (k * m) s h) n in
-    words_at_lem k m (take (k * m) s) i j
-    ∙ sym (field-within k (take (k * m) s) (drop (k * m) s) (k * i) inside)
-    ∙ rw (take-append-drop (k * m) s) (sym (words_at_lem k m s i j))
+    rows-stored :
+        (w : List A) (used : ℕ) {x : List A} → used + length w ≤ r → x ≡ sets (take r t) used w →
+        numbers (x ++ drop r t) ≡ sets (numbers t) used (numbers w)
+    rows-stored w used {x} h e =
+        let whole : x ++ drop r t ≡ sets t used w =
+        rw e (sets-front w (take r t) (drop r t) used (rw size h) ∙ ap (λ z. sets z used w) (take-append-drop r t)) in
+        ap numbers whole ∙ sym (each (sets t used w)) ∙ map-sets number w t used ∙ rw (each t, each w) refl
 
-module _ (k m : ℕ) {s : Section} {va : ℕ} {x : Located} (a : Arrays s va (k * m) x) where
-  reads-half :
-      (half : List ℕ) (o : ℕ) {room used : ℕ} {r : Listed} {t₀ t : List ℕ} →
-      array s va (k * m) ≡ done (take (k * m) (drop o half)) → o + k * m ≤ length half →
-      Takes (words k m (drop o half)) room used r t₀ t → ReadsNewList s va k m room used r t₀ t
-  reads-half half o e h t =
-      record { takes = rw (e, words-part k m (drop o half) (simp length-drop (omega arith))) t }
+    -- ---- a list copied
 
-  module _ {o : ℕ} (e : x ≡ System o) where
-    pub array-system : o + k * m ≤ length s.system
-    array-system = rw e at a.within
+    module _ (s : List A) (first n used : ℕ) {x : List A} (is : x ≡ copied n s first (take r t) used) where
+      abbrev test : Bool
+      test = copies n s first (take r t) used
 
-    pub reads-system :
-        {room used : ℕ} {r : Listed} {t₀ t : List ℕ} →
-        Takes (words k m (drop o s.system)) room used r t₀ t → ReadsNewList s va k m room used r t₀ t
-    reads-system t = reads-half s.system o (sym a.bytes ∙ ap (bytes_of s (k * m)) e) array-system t
+      pub copies-done : true ≡ test →
+          Copies (numbers s) first n (row * (length t / row)) used (Ok (behind used n)) (numbers t) (numbers (x ++ drop r t))
+      copies-done e =
+          let p = both (stands n s first) (stands n (take r t) used) e in
+          let h : first + n ≤ length s = leb-true (first + n) (length s) p.0 in
+          let f : used + n ≤ r = rw size at (leb-true (used + n) (length (take r t)) p.1) in
+          let l : length (take n (drop first s)) ≡ n = length-take-le n (drop first s) (simp length-drop (omega arith)) in
+          let w = part-each each s first n in
+          record {
+            copied =
+                λ _.
+                takes-stored (take n (drop first (numbers s))) (length_part (numbers s) first n (omega (arith, h, length-each each s))) (rw (← rows) f)
+                (rw w (rows-stored (take n (drop first s)) used (rw l f) (on test (take r t) e is)));
+            missing = λ m. absurd (omega (arith, h, length-each each s));
+          }
 
-  module _ {o : ℕ} (e : x ≡ Graphics o) where
-    pub array-graphics : o + k * m ≤ length s.graphics
-    array-graphics = rw e at a.within
+      pub copies-past : false ≡ test →
+          Copies (numbers s) first n (row * (length t / row)) used (Err TableTooShort) (numbers t) (numbers (x ++ drop r t))
+      copies-past e =
+          let same = rows-kept (off test _ e is) in
+          record {
+            copied =
+                λ h.
+                let f : first + n ≤ length s = omega (arith, h, length-each each s) in
+                let no = second (stands n s first) (stands n (take r t) used) e (le-leb (first + n) (length s) f) in
+                let past : r < used + n = rw size at (leb-false (used + n) (length (take r t)) no) in
+                takes-short (take n (drop first (numbers s))) (length_part (numbers s) first n h) (rw (← rows) past) same;
+            missing = λ _. (refl, same);
+          }
 
-    pub reads-graphics :
-        {room used : ℕ} {r : Listed} {t₀ t : List ℕ} →
-        Takes (words k m (drop o s.graphics)) room used r t₀ t → ReadsNewList s va k m room used r t₀ t
-    reads-graphics t = reads-half s.graphics o (sym a.bytes ∙ ap (bytes_of s (k * m)) e) array-graphics t
+    -- ---- a list read anew, m' words of k' bytes as the code counts them
 
-  pub reads-refused : {room used : ℕ} {c : Refusal} {t : List ℕ} → x ≡ NotLocated c → ReadsNewList s va k m room used (Refused c) t t
-  reads-refused e = record { takes = rw (sym a.bytes ∙ ap (bytes_of s (k * m)) e) refl }
+    module _
+        {values : List ℕ → List A} (same_words : (l : List ℕ) → numbers (values l) ≡ l) (k m : ℕ) {k' m' : ℕ} (ek : k' ≡ k) (em : m' ≡ m)
+        (sec : Section) (va : ℕ) {b : List ℕ} (found : done b ≡ array sec va (k' * m')) (all : length b ≡ k' * m') (used : ℕ) {x : List A}
+        (is : x ≡ loaded values k m' b 0 (take r t) used)
+      where
+        abbrev fit : Bool
+        fit = loads k m' b 0 (take r t) used
+
+        bytes_stand : stands (k * m') b 0 ≡ true
+        bytes_stand = le-leb (0 + k * m') (length b) (rw (all, ek) (omega arith))
+
+        new_by : {y : Result ours.List Refusal} {z : List ℕ} → Takes (words k m b) (row * (length t / row)) used y (numbers t) z →
+            ReadsNewList sec va k m (row * (length t / row)) used y (numbers t) z
+        new_by h = let here : done b ≡ array sec va (k * m) = rw (ek, em) at found in record { takes = rw (← here) h }
+
+        pub new-done : true ≡ fit →
+            ReadsNewList sec va k m (row * (length t / row)) used (Ok (behind used m')) (numbers t) (numbers (x ++ drop r t))
+        new-done e =
+            let p = both (stands (k * m') b 0) (stands m' (take r t) used) e in
+            let f : used + m' ≤ r = rw size at (leb-true (used + m') (length (take r t)) p.1) in
+            let l : length (values (words k m b)) ≡ m =
+            sym (length-each each (values (words k m b))) ∙ ap length (same_words (words k m b)) ∙ length-words k m b in
+            let g : used + m ≤ r = rw em at f in
+            new_by
+            (takes-stored (words k m b) (length-words k m b ∙ sym em) (rw (← rows) f)
+            (rows-stored (values (words k m b)) used (rw l g) (rw em at (on fit (take r t) e is)) ∙ ap (sets (numbers t) used) (same_words (words k m b))))
+
+        pub new_short : false ≡ fit →
+            ReadsNewList sec va k m (row * (length t / row)) used (Err TableTooShort) (numbers t) (numbers (x ++ drop r t))
+        new_short e =
+            let past : r < used + m' =
+            rw size at (leb-false (used + m') (length (take r t)) (second (stands (k * m') b 0) (stands m' (take r t) used) e bytes_stand)) in
+            new_by (takes-short (words k m b) (length-words k m b ∙ sym em) (rw (← rows) past) (rows-kept (off fit _ e is)))
+
+-- the bytes of a list are few enough to count
+pub bytes-fit : {k row n : ℕ} → k ≤ 4 → row ≤ 16 → n < 65536 → Fits w64 (k * (row * n))
+bytes-fit {k} {row} {n} a b h =
+    let l = mul-le k (row * n) 4 (16 * n) a (mul-le row n 16 n b (le_refl n)) in omega (arith, l)

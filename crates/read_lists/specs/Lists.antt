@@ -1,17 +1,18 @@
 -- The four list tables by the lists read into them, their rows, and our answers as the definitions have them. Definitions only.
 use Rattle.std.specs.Prelude.{ℕ, ◌+◌, ◌/◌, ◌≤◌, ◌≡◌, List, length}
-use Rattle.std.specs.Prelude.{Option, None, Some}
+use Rattle.std.specs.Prelude.{Option, None, Some, Result, Ok, Err}
 use Rattle.format.specs.Result.{Res, refused, done}
 use Rattle.format.specs.Refusal.{number}
+use Rattle.format.specs.declared.Refusal.{Refusal}
 use Rattle.format.specs.Tables.{ListTable, inverse_table, local_table, parents_table, children_table}
 use Rattle.format.specs.Tables.{Kind, skeleton, buckets, entry, block, bone, string, list}
-use Rattle.format.specs.Tables.{Rows, rows, Pooled, Lists, Tables, words_in, find}
-use Rattle.read_lists.specs.declared.Listed.{Listed}
-use Rattle.read_lists.specs.declared.Listed.TheVariants.{Absent, At, Refused}
-use Rattle.read_lists.specs.declared.Matrices.{Matrices}
-use Rattle.read_lists.specs.declared.Matrices.TheVariants.{Inverse, Local}
-use Rattle.read_lists.specs.declared.Indices.{Indices}
-use Rattle.read_lists.specs.declared.Indices.TheVariants.{Parents, Children}
+use Rattle.format.specs.Tables.{Rows, Pooled, Lists, Tables, words_in, find}
+use Rattle.blocks.specs.Pool.{meant_rows}
+use Rattle.read_lists.specs.declared.List as ours
+use Rattle.read_lists.specs.declared.kinds.Matrices.{Matrices}
+use Rattle.read_lists.specs.declared.kinds.Matrices.TheVariants.{Inverse, Local}
+use Rattle.read_lists.specs.declared.kinds.Indices.{Indices}
+use Rattle.read_lists.specs.declared.kinds.Indices.TheVariants.{Parents, Children}
 
 abbrev pub matrix_table : Matrices → ListTable
 matrix_table Inverse = inverse_table
@@ -36,10 +37,10 @@ rows_in parents_table t = length t
 rows_in children_table t = length t
 
 -- what an answer gives, where `used` words were used before: the list, and the words used after it; or the refusal's number
-abbrev pub meant_listed : ℕ → Listed → Res (Option Rows × ℕ)
-meant_listed used Absent = done (None, used)
-meant_listed used (At f c u) = done (Some (rows f c), u)
-meant_listed used (Refused r) = refused (number r)
+abbrev pub meant_listed : ℕ → Result (Option ours.List) Refusal → Res (Option Rows × ℕ)
+meant_listed used (Ok None) = done (None, used)
+meant_listed used (Ok (Some x)) = done (Some (meant_rows x.stored), x.used)
+meant_listed used (Err r) = refused (number r)
 
 -- ---- the lists that the pool gives
 

@@ -3,136 +3,59 @@
 #![tactic(auto)]
 
 ghost use Rattle.std.specs.Prelude.{◌≡◌};
-ghost use Rattle.blocks.specs.Kinds.{meant_table};
-ghost use Rattle.blocks.specs.Places.{section};
-ghost use Rattle.read_lists.specs.Lists.{matrix_table, index_table};
+ghost use Rattle.blocks.specs.Places.{section_of};
 ghost use Rattle.read_lists.specs.Reads.{ReadsList};
 
 use crate::pooling::Way;
-use blocks::kinds::ListTable;
+use blocks::kinds::Kind;
+use blocks::places::Section;
+use blocks::pool;
+use blocks::pool::Stored;
 use format::Refusal;
 
-mod pooling; // what the pool says of a list, and its row there
+pub mod kinds; // the kinds of lists, and the two tables of each
+mod pooling; // what the pool says of a list
 mod storing; // words stored as new rows, from bytes or from the other table
 
-// What reading a list gives.
+pub use kinds::{Indices, ListKind, Matrices};
+
+// A list that was read: its first word in its own table and the count of its words, and how many words of the table are used now.
 #[derive(Clone, Copy)]
-pub enum Listed {
-    // the address 0: no list stands
-    Absent,
-    // the list's first word in its own table, the count of its words, and how many words of the table are then used
-    At(usize, usize, usize),
-    // 10 or 11 where not all its bytes stand, 1 where its own table or the pool has no room
-    Refused(Refusal),
+pub struct List {
+    pub stored: Stored,
+    pub used: usize,
 }
 
-// The two lists of matrices.
-#[derive(Clone, Copy)]
-pub enum Matrices {
-    Inverse,
-    Local,
-}
-
-// The two lists of indices.
-#[derive(Clone, Copy)]
-pub enum Indices {
-    Parents,
-    Children,
-}
-
-impl Matrices {
-    fn table(self) -> ListTable
-        ensures { meant_table result ≡ matrix_table self }
-    {
-        match self {
-            Matrices::Inverse => ListTable::Inverse,
-            Matrices::Local => ListTable::Local,
-        }
-    }
-}
-
-impl Indices {
-    fn table(self) -> ListTable
-        ensures { meant_table result ≡ index_table self }
-    {
-        match self {
-            Indices::Parents => ListTable::Parents,
-            Indices::Children => ListTable::Children,
-        }
-    }
-}
-
-// The list of n matrices at an address, behind the `used` words of its own table; `other` is the other table of the kind. The pool
-// is asked before the count: a list of the kind is given again, and copied if it lies in the other table; at another kind's address
-// the list is read anew and left out of the pool. Refusals: 10, 11, then 1 for the rows, then 1 for the pool's row. `own` then holds
-// the rows and zeros behind them, and `pool` the list's row; of a refusal nothing is said of either.
-pub fn read_matrices(
-    sys: &[u8],
-    gfx: &[u8],
-    which: Matrices,
+// The list of n rows at an address, behind the `used` words of its own table; `other` is the other table of the kind. None where
+// the address is 0. The pool is asked before the count: a list of the kind is given again, and copied if it lies in the other
+// table; at another kind's address the list is read anew and left out of the pool. Refusals: 10, 11, then 1 for the rows, then 1
+// for the pool's row. `own` then holds the rows and zeros behind them, and `pool` the list's row; of a refusal nothing is said of
+// either.
+pub fn read_list<K: ListKind>(
+    section: Section,
+    which: K,
     va: u64,
     n: u16,
-    own: &mut [u32],
+    own: &mut [K::Word],
     used: usize,
-    other: &[u32],
+    other: &[K::Word],
     pool: &mut [u64],
-) -> Listed
-    ensures list { ReadsList (section sys.now gfx.now) (matrix_table which) va n used
-        other.now result own.old own.new pool.old pool.new }
+) -> Result<Option<List>, Refusal>
+    ensures list { ReadsList (section_of section.entry) (K.table which) va n used (K.Word.numbers other.now) result
+        (K.Word.numbers own.old) (K.Word.numbers own.new) pool.old pool.new }
 {
     if va == 0 {
-        return Listed::Absent;
+        return Ok(None);
     }
     let table = which.table();
     match pooling::way_of(pool, table, va) {
-        Way::Again(first, count) => Listed::At(first as usize, count as usize, used),
-        Way::Copy(first, count) => storing::copy_matrices(
-            other,
-            first as usize,
-            count as usize,
-            own,
-            used,
-        ),
-        Way::Over => storing::new_matrices(sys, gfx, va, n, own, used),
+        Way::Again(stored) => Ok(Some(List { stored, used })),
+        Way::Copy(stored) => Ok(Some(storing::copy_list::<K>(other, stored, own, used)?)),
+        Way::Over => Ok(Some(storing::new_list::<K>(section, va, n, own, used)?)),
         Way::New => {
-            let list = storing::new_matrices(sys, gfx, va, n, own, used);
-            pooling::pooled(pool, table, va, list)
-        }
-    }
-}
-
-// The list of n indices at an address, as `read_matrices` reads matrices.
-pub fn read_indices(
-    sys: &[u8],
-    gfx: &[u8],
-    which: Indices,
-    va: u64,
-    n: u16,
-    own: &mut [u16],
-    used: usize,
-    other: &[u16],
-    pool: &mut [u64],
-) -> Listed
-    ensures list { ReadsList (section sys.now gfx.now) (index_table which) va n used
-        other.now result own.old own.new pool.old pool.new }
-{
-    if va == 0 {
-        return Listed::Absent;
-    }
-    let table = which.table();
-    match pooling::way_of(pool, table, va) {
-        Way::Again(first, count) => Listed::At(first as usize, count as usize, used),
-        Way::Copy(first, count) => storing::copy_indices(
-            other,
-            first as usize,
-            count as usize,
-            own,
-            used,
-        ),
-        Way::Over => storing::new_indices(sys, gfx, va, n, own, used),
-        Way::New => {
-            let list = storing::new_indices(sys, gfx, va, n, own, used);
-            pooling::pooled(pool, table, va, list)
+            let list = storing::new_list::<K>(section, va, n, own, used)?;
+            pool::put(pool, va, Kind::List(table), list.stored)?;
+            Ok(Some(list))
         }
     }
 }

@@ -5,7 +5,7 @@ use mathlib.Core.List.{List}
 use Prim.Native.Nat.{ℕ}
 use Rattle.format.specs.Result.{Res, refused, done, status}
 use Rattle.format.specs.CallRefusals.{RefusesOnly}
-use Rattle.format.proofs.CallRefusals.{only-done, only-refused}
+use Rattle.format.proofs.Refusing.{only-done, only-refused}
 use Rattle.rig_answers.specs.Answer.{read_status}
 use Rattle.rig_answers.specs.Status.{sure, Tells, Statuses}
 use Rattle.rig_answers.proofs.Telling.{tells}

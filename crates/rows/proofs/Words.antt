@@ -1,13 +1,9 @@
 -- The words of a name's place. Assumes nothing.
-use Prim.Native.Nat.{ℕ, zero, suc, ◌+◌, ◌*◌, ◌≤◌}
-use mathlib.Core.Path.{◌≡◌, refl, sym, ◌∙◌}
-use mathlib.Core.List.{List, ◌++◌}
+use mathlib.Core.Path.{◌≡◌, refl}
+use mathlib.Core.List.{◌++◌}
 use Rattle.std.specs.Prelude.{Option, None, Some}
-use lib.ListN.{length, get_or, get_or-eq_default}
-use lib.Seq.{get_or-drop}
 use Rattle.format.specs.Section as section
-use Rattle.format.specs.Rows.{place_words, two_words, place_of}
-use Rattle.rows.specs.Row.{row_words}
+use Rattle.format.specs.Rows.{place_words, two_words}
 use Rattle.rows.specs.Value.{our_place}
 
 pub place_words_lem : (o : Option section.Place) → place_words o ≡ two_words (our_place o).address ++ two_words (our_place o).size

@@ -3,9 +3,10 @@
 use Rattle.std.specs.Prelude.{ℕ, ◌+◌, ◌*◌, ◌<◌, ◌≡◌, Bool, cond, List, length, get_or, drop, leb}
 use Rattle.std.specs.Prelude.{Option, None, Some}
 use Rattle.std.proofs.lemmas.List.Edits.{sets}
+use Rattle.format.specs.Result.{Res, ◌>>=◌, need, done}
 use Rattle.format.specs.Section.{Place}
 use Rattle.format.specs.Bone.{Bone, Words3, Words4, words3, words4}
-use Rattle.format.specs.Rows.{bone_width, bone_words, bone_of}
+use Rattle.format.specs.Rows.{bone_width, bone_words, bone_of, bones_of}
 
 -- the words from row p on
 abbrev pub row_words : List ℕ → ℕ → List ℕ
@@ -21,6 +22,12 @@ words3_from w i = words3 (get_or w i 0) (get_or w (i + 1) 0) (get_or w (i + 2) 0
 
 abbrev pub words4_from : List ℕ → ℕ → Words4
 words4_from w i = words4 (get_or w i 0) (get_or w (i + 1) 0) (get_or w (i + 2) 0) (get_or w (i + 3) 0)
+
+-- the bones in the first n rows; 1 where the table has fewer
+unfoldable pub bones_got : ℕ → List ℕ → Res (List (Bone Place))
+bones_got n t = do
+  u1 ← need 1 (leb (bone_width * n) (length t))
+  done (bones_of n t)
 
 -- whether row p lies wholly in the table
 abbrev pub has_row : List ℕ → ℕ → Bool

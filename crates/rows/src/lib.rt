@@ -3,13 +3,13 @@
 // definitions (`row_at t p`): `parent_at(bones, p)` is as plain as a method of a view of that row.
 #![tactic(auto, unfolding(format::specs::Rows::bone_of, format::specs::Rows::place_of, crate::specs::Value::our_bone))]
 
-ghost use Rattle.std.specs.Prelude.{◌≡◌, ◌+◌, ◌*◌, ◌/◌, ◌%◌, ◌^◌, ◌≤◌, length, get_or};
+ghost use Rattle.std.specs.Prelude.{◌≡◌, ◌+◌, ◌*◌, ◌/◌, ◌%◌, ◌^◌, ◌≤◌, length, get_or, map};
 ghost use Rattle.std.proofs.lemmas.List.Edits.{sets};
 ghost use Rattle.math.specs.Word.{float_of};
 ghost use Rattle.format.specs.Result.{need};
-ghost use Rattle.format.specs.Refusal.{outcome};
-ghost use Rattle.format.specs.Rows.{pair, lower, upper, bone_width, bone_words, place_of};
-ghost use Rattle.rows.specs.Row.{row_words, row_at, words3_from, words4_from, has_row, put_row};
+ghost use Rattle.format.specs.Refusal.{outcome, outcome_by};
+ghost use Rattle.format.specs.Rows.{pair, lower, upper, bone_width, bone_words, bone_of, place_of};
+ghost use Rattle.rows.specs.Row.{row_words, row_at, words3_from, words4_from, has_row, put_row, bones_got};
 ghost use Rattle.rows.specs.Value.{our_place, our_bone, meant_bone, vec3_of, vec4_of};
 ghost use Rattle.format.specs.Words.{our_words3, our_words4};
 
@@ -33,7 +33,7 @@ pub struct Bone {
     pub kept: Words4,
 }
 
-// ---- words
+// ---- words: halves of one, and those of a long number. (No From: a word has two halves, and the library has no method for either.)
 
 fn lower_half(w: u32) -> u16
     ensures answer { result ≡ lower w }
@@ -128,6 +128,18 @@ fn words4_at(t: &[u32], p: usize, i: usize) -> Words4
     }
 }
 
+// The three floats that stand in row p from word i on.
+fn vec3_at(t: &[u32], p: usize, i: usize) -> Vec3
+    requires { i ≤ 18 }
+    ensures answer { result ≡ vec3_of (words3_from (row_words t.now p) i) }
+{
+    Vec3 {
+        x: float_at(t, p, i),
+        y: float_at(t, p, i + 1),
+        z: float_at(t, p, i + 2),
+    }
+}
+
 // The parent of the bone in row p, a pattern.
 pub fn parent_at(t: &[u32], p: usize) -> u16
     ensures answer { result ≡ (row_at t.now p).parent }
@@ -165,22 +177,14 @@ pub fn rotation_at(t: &[u32], p: usize) -> Vec4
 pub fn translation_at(t: &[u32], p: usize) -> Vec3
     ensures answer { result ≡ vec3_of (row_at t.now p).translation }
 {
-    Vec3 {
-        x: float_at(t, p, format::TRANSLATION_X),
-        y: float_at(t, p, format::TRANSLATION_Y),
-        z: float_at(t, p, format::TRANSLATION_Z),
-    }
+    vec3_at(t, p, format::TRANSLATION_X)
 }
 
 // The scale of the bone in row p.
 pub fn scale_at(t: &[u32], p: usize) -> Vec3
     ensures answer { result ≡ vec3_of (row_at t.now p).scale }
 {
-    Vec3 {
-        x: float_at(t, p, format::SCALE_X),
-        y: float_at(t, p, format::SCALE_Y),
-        z: float_at(t, p, format::SCALE_Z),
-    }
+    vec3_at(t, p, format::SCALE_X)
 }
 
 // The kept words of the bone in row p.
@@ -223,6 +227,20 @@ pub fn bone_at(t: &[u32], p: usize) -> Bone
         tag: tag_at(t, p),
         kept: kept_at(t, p),
     }
+}
+
+// ---- the rows of a table
+
+// The first n rows of a table. 1 for a table that has fewer.
+#[tactic(auto, using(crate::proofs::Rows::rows_short, crate::proofs::Rows::rows_first))]
+pub fn rows_of(t: &[u32], n: usize) -> Result<&[[u32; BONE_WORDS]], Refusal>
+    ensures answer { outcome_by (λ rows. map bone_of rows.now) result ≡ bones_got n t.now }
+{
+    let (rows, _) = t.as_chunks::<BONE_WORDS>();
+    if rows.len() < n {
+        return Err(Refusal::TableTooShort);
+    }
+    Ok(&rows[..n])
 }
 
 // ---- storing a row

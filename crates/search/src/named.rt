@@ -26,7 +26,8 @@ fn has_key<'a>(sys: &'a [u8], gfx: &'a [u8], p: Place, key: u32) -> bool
     hash::rage_joaat(name) == key
 }
 
-// The first of the n bones in the first rows of a table whose stored name bytes hash to a key; bones without a name are skipped.
+// The first of the n bones in the first rows of a table whose stored name bytes hash to a key; bones without a name are skipped. (The table
+// is not cut to n rows: they stand in a reading's table, and not in any that is lent.)
 pub(crate) fn first_named<'a>(
     sys: &'a [u8],
     gfx: &'a [u8],

@@ -25,26 +25,26 @@ module _ {A : Type 0} (n : ℕ) (hold : Bool) (a : A) where
 abbrev tested : {A : Type 0} → Bool → Bool → A → Res A
 tested few hold a = need 2 few >>= λ u. need 1 hold >>= λ v. done a
 
--- the two tests where there is no refusal
-passed : (few hold : Bool) → done tt ≡ tested {A = Unit {0}} few hold tt → (few ≡ true) × (hold ≡ true)
-passed true true e = (refl, refl)
+-- the two tests where there is no refusal, and the value
+passed : {A : Type 0} {a b : A} (few hold : Bool) → done b ≡ tested few hold a → (few ≡ true) × (hold ≡ true) × (b ≡ a)
+passed true true e = (refl, refl, cc)
 passed true false e = let z : ◌≡◌ {A = ℕ} 0 1 = cc in absurd (omega arith)
 passed false hold e = let z : ◌≡◌ {A = ℕ} 0 1 = cc in absurd (omega arith)
 
-pub enough : (n : ℕ) (hold : Bool) → done tt ≡ room_for n hold → (n ≤ 65535) × (hold ≡ true)
+pub enough : {A : Type 0} {a b : A} (n : ℕ) (hold : Bool) → done b ≡ derived n hold a → (n ≤ 65535) × (hold ≡ true) × (b ≡ a)
 unfolding derived
-enough n hold e = let t = passed (leb n 65535) hold e in (leb-true n 65535 t.0, t.1)
+enough n hold e = let t = passed (leb n 65535) hold e in (leb-true n 65535 t.0, t.1, t.2)
 
 -- a refusal does not depend on the value
 stopped :
-    {A : Type 0} (few hold : Bool) (a : A) (c : ℕ) → refused c ≡ tested {A = Unit {0}} few hold tt → refused c ≡ tested few hold a
-stopped true true a c e = let z : ◌≡◌ {A = ℕ} 0 1 = cc in absurd (omega arith)
-stopped true false a c e = cc
-stopped false hold a c e = cc
+    {A B : Type 0} (few hold : Bool) (a : A) (b : B) (c : ℕ) → refused c ≡ tested few hold b → refused c ≡ tested few hold a
+stopped true true a b c e = let z : ◌≡◌ {A = ℕ} 0 1 = cc in absurd (omega arith)
+stopped true false a b c e = cc
+stopped false hold a b c e = cc
 
-pub refuses : {A : Type 0} (n : ℕ) (hold : Bool) (a : A) (c : ℕ) → refused c ≡ room_for n hold → refused c ≡ derived n hold a
+pub refuses : {A B : Type 0} (n : ℕ) (hold : Bool) (a : A) (b : B) (c : ℕ) → refused c ≡ derived n hold b → refused c ≡ derived n hold a
 unfolding derived
-refuses n hold a c e = stopped (leb n 65535) hold a c e
+refuses n hold a b c e = stopped (leb n 65535) hold a b c e
 
 -- ---- tests put together
 

@@ -15,7 +15,8 @@ use Rattle.format.specs.Deriving.{DeriveRoom}
 use Rattle.format.specs.Read.{Step}
 use Rattle.format.specs.CallRefusals.{deriving_refusals, writing_refusals, reading_refusals, joints_written_refusals, RefusesOnly}
 use Rattle.format.specs.Joints.{rotation_width, rotation_row, rotation_written, translation_width, translation_row, translation_written}
-use Rattle.format.proofs.CallRefusals.{only-done, only-refused, only_then, only-need, call_refusals}
+use Rattle.format.proofs.CallRefusals.{call_refusals}
+use Rattle.format.proofs.Refusing.{only-done, only-refused, only_then, only-need}
 use Rattle.tables.specs.Outcome.{derived, size_of}
 use Rattle.read.specs.Reads.{answer_of}
 use Rattle.write.specs.Outcome.{outcome}

@@ -2,18 +2,16 @@
 use mathlib.Core.Path.{◌≡◌, refl, ap, ◌∙◌}
 use Rattle.std.specs.Prelude.{None, Some}
 use mathlib.Core.List.{List, [], ◌∷◌, map}
-use Rattle.std.specs.Simd.{first_chunks}
-use Prim.Native.Nat.{ℕ, zero, suc, ◌+◌, ◌-◌, ◌*◌, ◌^◌, ◌≤◌, ◌<◌}
+use Prim.Native.Nat.{ℕ, zero, suc, ◌+◌, ◌*◌, ◌^◌, ◌≤◌, ◌<◌}
 use native.Mathlib.Nat.{add_assoc}
 use native.Mathlib.Numerals.{add-one}
 use native.Mathlib.Omega.{arith}
-use lib.ListN.{length, get_or, take, drop, length-map, drop_of_length-le}
-use lib.Seq.{sets, drop-cons, get_or-take, take-take}
-use Rattle.std.proofs.lemmas.List.{drop-take}
+use lib.ListN.{length, get_or, drop, length-map, drop_of_length-le}
+use lib.Seq.{sets, drop-cons}
 use Rattle.format.specs.Field.{word_bytes, ◌⊳◌, lay}
 use Rattle.format.specs.Section.{Place}
 use Rattle.format.specs.Bone.{Bone}
-use Rattle.format.specs.Rows.{place_of, bone_of, bones_of}
+use Rattle.format.specs.Rows.{place_of, bone_of}
 use Rattle.format.specs.Layout.{base, pointer, bone_items}
 use Rattle.format.proofs.Fields.{length-lay, size}
 use Rattle.rows.specs.Value.{our_place}
@@ -145,44 +143,3 @@ block-some d {d'} {d''} at names (r ∷ rs) h e f =
     let g : d' ≡ sets d at x = rw (header-words (suc (length rs))) at e in
     f ∙ ap (λ (l : List ℕ). sets l (at + 16) (records names (bone_of r ∷ bs))) g
     ∙ rw (k, sets-append x (records names (bone_of r ∷ bs)) d at, s)
-
--- ---- the rows of a table
-
--- the bone of a row is that of its 21 words
-bone_words-first : (w : List ℕ) → bone_of (take 21 w) ≡ bone_of w
-unfolding bone_of
-bone_words-first w =
-    rw (
-      get_or-take 21 w 0 0 (omega arith),
-      get_or-take 21 w 1 0 (omega arith),
-      get_or-take 21 w 2 0 (omega arith),
-      get_or-take 21 w 3 0 (omega arith),
-      get_or-take 21 w 4 0 (omega arith),
-      get_or-take 21 w 5 0 (omega arith),
-      get_or-take 21 w 6 0 (omega arith),
-      get_or-take 21 w 7 0 (omega arith),
-      get_or-take 21 w 8 0 (omega arith),
-      get_or-take 21 w 9 0 (omega arith),
-      get_or-take 21 w 10 0 (omega arith),
-      get_or-take 21 w 11 0 (omega arith),
-      get_or-take 21 w 12 0 (omega arith),
-      get_or-take 21 w 13 0 (omega arith),
-      get_or-take 21 w 14 0 (omega arith),
-      get_or-take 21 w 15 0 (omega arith),
-      get_or-take 21 w 16 0 (omega arith),
-      get_or-take 21 w 17 0 (omega arith),
-      get_or-take 21 w 18 0 (omega arith),
-      get_or-take 21 w 19 0 (omega arith),
-      get_or-take 21 w 20 0 (omega arith),
-    )
-
--- the first words of a table, cut into rows
-pub rows_cut : (n m : ℕ) (t : List ℕ) → 21 * n ≤ m → map bone_of (first_chunks 21 n (take m t)) ≡ bones_of n t
-unfolding bones_of
-rows_cut zero m t h = refl
-rows_cut (suc n) m t h =
-    let k = m - 21 in
-    let e : m ≡ 21 + k = omega arith in
-    let f : take 21 (take m t) ≡ take 21 t = take-take 21 m t (omega arith) in
-    let g : drop 21 (take m t) ≡ take k (drop 21 t) = ap (λ (j : ℕ). drop 21 (take j t)) e ∙ drop-take 21 k t in
-    rw (f, bone_words-first t, g, rows_cut n k (drop 21 t) (omega arith))

@@ -19,11 +19,12 @@ use Rattle.format.specs.Deriving.{DeriveRoom, derives}
 use Rattle.format.specs.Rows.{bones_of}
 use Rattle.format.specs.Layout.{Bytes, layout}
 use Rattle.format.specs.Write.{good_names, named, written}
+use Rattle.rows.specs.Row.{bones_got}
 use Rattle.rows.proofs.Rows.{length-bones_of}
 use Rattle.write.specs.Records.{takes_all}
 use Rattle.write.specs.Names.{names_result, RowsHere}
 use Rattle.write.specs.Filling.{kids_of, DerivedRows, Held}
-use Rattle.write.specs.Outcome.{outcome, Writes, tested, derived_in, laid_out}
+use Rattle.write.specs.Outcome.{outcome, Writes, bones_tested, derived_in, laid_out}
 use Rattle.tables.specs.Working.{Working}
 
 -- ---- a refusal leaves the buffer as it was
@@ -39,21 +40,6 @@ pub writes_same : {w w' : Res Bytes} {r : Result ℕ Refusal} {out out' : List �
 writes_same e h = rw e h
 
 -- ---- the tests of the bones
-
-module _ (lent : Section) (n : ℕ) (t : List ℕ) where
-  pub tested_many : 65535 < n → refused 2 ≡ tested lent n t
-  unfolding tested
-  tested_many h = rw (lt-leb n 65535 h)
-
-  pub tested-short : n ≤ 65535 → length t < 21 * n → refused 1 ≡ tested lent n t
-  unfolding tested
-  tested-short h k = rw (le-leb n 65535 h, lt-leb (21 * n) (length t) k)
-
-  pub tested-names : n ≤ 65535 → 21 * n ≤ length t → tested lent n t ≡ names_result lent (bones_of n t)
-  unfolding tested
-  tested-names h k = rw (le-leb n 65535 h, le-leb (21 * n) (length t) k)
-
--- ---- what a passed test tells, and what a refusal means
 
 -- bones that may be written
 pub record Sound (lent : Section) (n : ℕ) (t : List ℕ) (s : ℕ) : Type 0 where
@@ -71,39 +57,53 @@ names_by lent bs s e = by (good_names lent bs) refl e
     by true q f = (q, cc)
     by false q f = let z : ◌≡◌ {A = ℕ} 0 1 = cc in absurd (omega arith)
 
-pub sound : (lent : Section) (n : ℕ) (t : List ℕ) {s : ℕ} → done s ≡ tested lent n t → Sound lent n t s
-unfolding tested
-sound lent n t {s} e = by (leb n 65535) (leb (21 * n) (length t)) refl refl e
+-- the bones that pass the first two
+pub bones_found : (n : ℕ) (t : List ℕ) {bs : List (Bone Place)} → done bs ≡ bones_tested n t → RowsHere t n × (bs ≡ bones_of n t)
+unfolding bones_tested bones_got
+bones_found n t {bs} e = by (leb n 65535) (leb (21 * n) (length t)) refl refl e
   where
     by :
         (x y : Bool) → leb n 65535 ≡ x → leb (21 * n) (length t) ≡ y
-        → done s ≡ (need 2 x >>= λ u. need 1 y >>= λ v. names_result lent (bones_of n t)) → Sound lent n t s
-    by true true f g h =
-        let k = names_by lent (bones_of n t) s (sym h) in
-        record {
-          here = record { rows = leb-true (21 * n) (length t) g; few = leb-true n 65535 f };
-          good = k.0;
-          names = k.1;
-        }
+        → done bs ≡ (need 2 x >>= λ u. need 1 y >>= λ v. done (bones_of n t)) → RowsHere t n × (bs ≡ bones_of n t)
+    by true true f g h = (record { rows = leb-true (21 * n) (length t) g; few = leb-true n 65535 f }, cc)
     by true false f g h = let z : ◌≡◌ {A = ℕ} 0 1 = cc in absurd (omega arith)
     by false y f g h = let z : ◌≡◌ {A = ℕ} 0 1 = cc in absurd (omega arith)
 
+pub sound :
+    (lent : Section) (n : ℕ) (t : List ℕ) {bs : List (Bone Place)} {s : ℕ} → done bs ≡ bones_tested n t → done s ≡ names_result lent bs
+    → Sound lent n t s
+sound lent n t {bs} {s} e f =
+    let g = bones_found n t e in
+    let k = names_by lent bs s (sym f) in
+    record { here = g.0; good = rw g.1 at k.0; names = rw g.1 at k.1 }
+
 module _ (lent : Section) (room : DeriveRoom) (size n : ℕ) (t : List ℕ) (free : Words4) where
   -- a test that refuses is the outcome
-  outcome_by :
-      (x y g : Bool) (c : ℕ) (rest : Res Bytes)
-      → refused c ≡ (need 2 x >>= λ u. need 1 y >>= λ v. need 4 g >>= λ w. done (takes_all (bones_of n t)))
-      → (need 2 x >>= λ u. need 1 y >>= λ v. need 2 x >>= λ w. need 4 g >>= λ z. rest) ≡ refused c
-  outcome_by false y g c rest e = let q : c ≡ 2 = cc in rw q
-  outcome_by true false g c rest e = let q : c ≡ 1 = cc in rw q
-  outcome_by true true false c rest e = let q : c ≡ 4 = cc in rw q
-  outcome_by true true true c rest e = let z : ◌≡◌ {A = ℕ} 0 1 = cc in absurd (omega arith)
+  outcome_tested :
+      (x y : Bool) (c : ℕ) (rest : Res Bytes) → refused c ≡ (need 2 x >>= λ u. need 1 y >>= λ v. done (bones_of n t))
+      → (need 2 x >>= λ u. need 1 y >>= λ v. rest) ≡ refused c
+  outcome_tested false y c rest e = let q : c ≡ 2 = cc in rw q
+  outcome_tested true false c rest e = let q : c ≡ 1 = cc in rw q
+  outcome_tested true true c rest e = let z : ◌≡◌ {A = ℕ} 0 1 = cc in absurd (omega arith)
 
-  pub outcome-refused :
-      {c : ℕ} → refused c ≡ tested lent n t → outcome lent room size n t free ≡ refused c
-  unfolding outcome written tested names_result
-  outcome-refused {c} e =
-      rw (length-bones_of n t) (outcome_by (leb n 65535) (leb (21 * n) (length t)) (good_names lent (bones_of n t)) c _ e)
+  pub outcome-refused : {c : ℕ} → refused c ≡ bones_tested n t → outcome lent room size n t free ≡ refused c
+  unfolding outcome bones_tested bones_got
+  outcome-refused {c} e = outcome_tested (leb n 65535) (leb (21 * n) (length t)) c _ e
+
+  outcome_named :
+      (g : Bool) (c : ℕ) (rest : Res Bytes) → refused c ≡ (need 4 g >>= λ w. done (takes_all (bones_of n t)))
+      → (need 4 g >>= λ z. rest) ≡ refused c
+  outcome_named false c rest e = let q : c ≡ 4 = cc in rw q
+  outcome_named true c rest e = let z : ◌≡◌ {A = ℕ} 0 1 = cc in absurd (omega arith)
+
+  pub outcome-named :
+      {bs : List (Bone Place)} {c : ℕ} → done bs ≡ bones_tested n t → refused c ≡ names_result lent bs
+      → outcome lent room size n t free ≡ refused c
+  unfolding outcome written names_result
+  outcome-named {bs} {c} e f =
+      let g = bones_found n t e in
+      rw (length-bones_of n t, le-leb n 65535 g.0.few, le-leb (21 * n) (length t) g.0.rows)
+      (outcome_named (good_names lent (bones_of n t)) c _ (rw g.1 at f))
 
   -- bones that pass: the tables, the child entries and the buffer are left
   pub outcome-sound :

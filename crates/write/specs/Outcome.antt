@@ -10,8 +10,8 @@ use Rattle.format.specs.Deriving.{DeriveRoom, derives}
 use Rattle.format.specs.Rows.{bone_width, bones_of}
 use Rattle.format.specs.Layout.{Bytes, layout}
 use Rattle.format.specs.Write.{named, written}
+use Rattle.rows.specs.Row.{bones_got}
 use Rattle.tables.specs.Outcome.{size_of}
-use Rattle.write.specs.Names.{names_result}
 use Rattle.write.specs.Filling.{kids_of}
 
 -- ---- the outcome
@@ -36,12 +36,11 @@ pub record Writes (w : Res Bytes) (r : Result ℕ Refusal) (out out' : List ℕ)
 
 -- ---- its steps
 
--- 2, 1 for the table of bones, then 4; the bytes that the names take
-unfoldable pub tested : Section → ℕ → List ℕ → Res ℕ
-tested lent n t = do
+-- 2, 1 for the table of bones; its first n
+unfoldable pub bones_tested : ℕ → List ℕ → Res (List (Bone Place))
+bones_tested n t = do
   u2 ← need 2 (leb n 65535)
-  u1 ← need 1 (leb (bone_width * n) (length t))
-  names_result lent (bones_of n t)
+  bones_got n t
 
 -- 1 for the derived tables; the number of child entries
 unfoldable pub derived_in : DeriveRoom → ℕ → List ℕ → Res ℕ

@@ -1,25 +1,15 @@
 // The bones block: its count, then the bones' records of 80 bytes, each one array of words (docs/FORMAT.md, "Records").
-ghost use Rattle.std.specs.Prelude.{◌≡◌, ◌+◌, ◌*◌, ◌≤◌, length, map};
+ghost use Rattle.std.specs.Prelude.{◌≡◌, ◌+◌, ◌≤◌, length, map};
 ghost use Rattle.std.proofs.lemmas.List.Edits.{sets};
 ghost use Rattle.format.specs.Field.{lay};
 ghost use Rattle.format.specs.Layout.{base, bone_items, pad16};
-ghost use Rattle.format.specs.Rows.{bone_of, bones_of};
+ghost use Rattle.format.specs.Rows.{bone_of};
 ghost use Rattle.write.specs.Records.{ShortName, takes, bone_record, records, block, BonesRoom, BlockRoom};
 
 use crate::starts::pointer;
 use crate::words::put_run;
 use format::BONE_WORDS;
 use rows::name_at;
-
-// The first n rows of a table.
-pub(crate) fn rows_of(t: &[u32], n: usize) -> &[[u32; BONE_WORDS]]
-    requires { 21 * n ≤ length t.now }
-    ensures count { length result.now ≡ n }
-    ensures bones { map bone_of result.now ≡ bones_of n t.now }
-{
-    let (rows, _) = t[..BONE_WORDS * n].as_chunks::<BONE_WORDS>();
-    rows
-}
 
 // The bytes that a row's name takes, its zero among them: none for no name.
 pub(crate) fn name_bytes(row: &[u32; BONE_WORDS]) -> usize

@@ -20,18 +20,26 @@ returns-then-pointer-eq-HEADER_SIZE c =
 pub returns-in_err-stored : goal.returns-in_err-stored
 returns-in_err-stored c =
     let p = err_from_is_err_and c.from_residual.result c.from_residual.ensures.1 in
-    record { tables = rw (p.1, p.2) (block-other _ c.args.pointer c.args.n c.args.used _ _ c.if-pointer-lt-HEADER_SIZE.false c.if-pointer-eq-HEADER_SIZE.false c.cached_as.ensures.answer c.in_err-stored.was) }
+    record {
+      tables = rw (p.1, p.2) (block-other _ c.args.pointer c.args.n c.args.used _ _ c.if-pointer-lt-HEADER_SIZE.false
+          c.if-pointer-eq-HEADER_SIZE.false c.cached_as.ensures.answer c.in_err-stored.was);
+    }
 
 pub returns-in-Some : goal.returns-in-Some
-returns-in-Some c = record { tables = block_again _ c.args.pointer c.args.n c.args.used _ _ c.if-pointer-lt-HEADER_SIZE.false c.if-pointer-eq-HEADER_SIZE.false c.cached_as.ensures.answer (c.in_ok-stored.was ∙ ap Ok c.in-Some.is) }
+returns-in-Some c = record {
+  tables = block_again _ c.args.pointer c.args.n c.args.used _ _ c.if-pointer-lt-HEADER_SIZE.false
+      c.if-pointer-eq-HEADER_SIZE.false c.cached_as.ensures.answer (c.in_ok-stored.was ∙ ap Ok c.in-Some.is);
+}
 
 pub returns-in_err-new : goal.returns-in_err-new
 returns-in_err-new c =
-    let new = block-unread _ c.args.pointer c.args.n c.args.used _ _ c.if-pointer-lt-HEADER_SIZE.false c.if-pointer-eq-HEADER_SIZE.false c.cached_as.ensures.answer (c.in_ok-stored.was ∙ ap Ok c.in_default.is) c.new_block.ensures in
+    let new = block-unread _ c.args.pointer c.args.n c.args.used _ _ c.if-pointer-lt-HEADER_SIZE.false
+    c.if-pointer-eq-HEADER_SIZE.false c.cached_as.ensures.answer (c.in_ok-stored.was ∙ ap Ok c.in_default.is) c.new_block.ensures in
     let p = err_from_is_err_and c.from_residual-in_err-new.result c.from_residual-in_err-new.ensures.1 in
     record { tables = rw (p.1, p.2) (block_by new (ap named c.in_err-new.was)) }
 
 pub returns : goal.returns
 returns c =
-    let new = block-unread _ c.args.pointer c.args.n c.args.used _ _ c.if-pointer-lt-HEADER_SIZE.false c.if-pointer-eq-HEADER_SIZE.false c.cached_as.ensures.answer (c.in_ok-stored.was ∙ ap Ok c.in_default.is) c.new_block.ensures in
+    let new = block-unread _ c.args.pointer c.args.n c.args.used _ _ c.if-pointer-lt-HEADER_SIZE.false
+    c.if-pointer-eq-HEADER_SIZE.false c.cached_as.ensures.answer (c.in_ok-stored.was ∙ ap Ok c.in_default.is) c.new_block.ensures in
     record { tables = block_by new (ap named c.in_ok-new.was) }

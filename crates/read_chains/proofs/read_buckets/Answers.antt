@@ -6,28 +6,25 @@ use Rattle.read_chains.specs.Arrays.{named}
 use Rattle.read_chains.proofs.Arrays.{buckets-none, buckets_again, buckets-other, buckets-new, buckets_by}
 use Rattle.read_chains.proofs.read_buckets.Goals as goal
 
-pub returns-then-va-eq0 : goal.returns-then-va-eq0
-returns-then-va-eq0 c = record { tables = buckets-none _ _ _ _ _ c.if-va-eq0.true }
+pub returns-then-va-eq0-clause-tables : goal.returns-then-va-eq0-clause-tables
+returns-then-va-eq0-clause-tables c = buckets-none _ _ _ _ _ c.if-va-eq0.true
 
-pub returns-in_err-stored : goal.returns-in_err-stored
-returns-in_err-stored c =
+pub returns-in_err-stored-clause-tables : goal.returns-in_err-stored-clause-tables
+returns-in_err-stored-clause-tables c =
     let p = err_from_is_err_and c.from_residual.result c.from_residual.ensures.1 in
-    record { tables = rw (p.1, p.2) (buckets-other _ _ _ _ _ c.if-va-eq0.false c.cached_as.ensures.answer c.in_err-stored.was) }
+    rw (p.1, p.2) (buckets-other _ _ _ _ _ c.if-va-eq0.false c.pooled.ensures.answer c.in_err-stored.was)
 
-pub returns-in-Some : goal.returns-in-Some
-returns-in-Some c =
-    record {
-      tables =
-          buckets_again _ _ _ _ _ c.if-va-eq0.false c.cached_as.ensures.answer (c.in_ok-stored.was ∙ ap Ok c.in-Some.is);
-    }
+pub returns-in-Some-clause-tables : goal.returns-in-Some-clause-tables
+returns-in-Some-clause-tables c =
+    buckets_again _ _ _ _ _ c.if-va-eq0.false c.pooled.ensures.answer (c.in_ok-stored.was ∙ ap Ok c.in-Some.is)
 
-pub returns-in_err-new : goal.returns-in_err-new
-returns-in_err-new c =
+pub returns-in_err-new-clause-tables : goal.returns-in_err-new-clause-tables
+returns-in_err-new-clause-tables c =
     let p = err_from_is_err_and c.from_residual-in_err-new.result c.from_residual-in_err-new.ensures.1 in
-    let new = buckets-new _ _ _ _ _ c.if-va-eq0.false c.cached_as.ensures.answer (c.in_ok-stored.was ∙ ap Ok c.in_default.is) c.read_new.ensures in
-    record { tables = rw (p.1, p.2) (buckets_by new (ap named c.in_err-new.was)) }
+    let new = buckets-new _ _ _ _ _ c.if-va-eq0.false c.pooled.ensures.answer (c.in_ok-stored.was ∙ ap Ok c.in_default.is) c.read_new.ensures.tables in
+    rw (p.1, p.2) (buckets_by new (ap named c.in_err-new.was))
 
-pub returns : goal.returns
-returns c =
-    let new = buckets-new _ _ _ _ _ c.if-va-eq0.false c.cached_as.ensures.answer (c.in_ok-stored.was ∙ ap Ok c.in_default.is) c.read_new.ensures in
-    record { tables = buckets_by new (ap named c.in_ok-new.was) }
+pub returns-clause-tables : goal.returns-clause-tables
+returns-clause-tables c =
+    let new = buckets-new _ _ _ _ _ c.if-va-eq0.false c.pooled.ensures.answer (c.in_ok-stored.was ∙ ap Ok c.in_default.is) c.read_new.ensures.tables in
+    buckets_by new (ap named c.in_ok-new.was)

@@ -8,6 +8,5 @@ pub returns-then-i-pool : goal.returns-then-i-pool
 returns-then-i-pool c =
     let p = pool_row c.args.va (meant_kind c.args.kind) c.args.stored.first c.args.stored.count in
     record {
-      table =
-          rw c.store.ensures.table (record { at = λ g. stores-done c.args.pool.now p c.args.i g c.if-i-pool.true });
+      table = rw (c.store.ensures.table, c.in-Row.is) (record { at = λ g. stores-done c.args.pool.now p c.in-Row.i g });
     }

@@ -3,28 +3,12 @@ use native.Mathlib.Omega.{arith}
 use Prim.Native.Nat.{◌-◌}
 use mathlib.Core.Path.{sym, ◌∙◌}
 use Rattle.blocks.proofs.Scanning.{key-free, key-used}
-use Rattle.blocks.proofs.Descending.{sought_none, sought_more, free-none, free-found, free-nowhere}
+use Rattle.blocks.proofs.Descending.{sought_none, sought_more, free-found, free-nowhere}
 use Rattle.blocks.proofs.tree.free_row.Goals as goal
-
-pub returns-then-rows-taken : goal.returns-then-rows-taken
-returns-then-rows-taken c =
-    free-none c.args.pool.now _ _ c.linked_rows-rows.ensures c.link_in-taken.ensures c.if-rows-taken.true
 
 pub loop-i-init : goal.loop-i-init
 loop-i-init c =
-    sought_none c.args.pool.now _ _ c.linked_rows-rows.ensures c.link_in-taken.ensures c.if-rows-taken.false
-
-pub overflow_mul-i : goal.overflow_mul-i
-overflow_mul-i c = omega arith
-
-pub overflow_add-i : goal.overflow_add-i
-overflow_add-i c = omega arith
-
-pub offset_bounds-pool-i : goal.offset_bounds-pool-i
-offset_bounds-pool-i c = omega arith
-
-pub bounds-pool-i : goal.bounds-pool-i
-bounds-pool-i c = omega arith
+    sought_none c.args.pool.now _ _ _ c.linked_rows-rows.ensures c.link_in-taken.ensures c.saturating_sub-i.ensures
 
 pub returns-then-kind_in-eq0 : goal.returns-then-kind_in-eq0
 returns-then-kind_in-eq0 c =
@@ -38,4 +22,4 @@ loop-i-preserved c =
 
 pub returns : goal.returns
 returns c =
-    free-nowhere c.args.pool.now _ c.loop-i.i c.loop-i.invariant (omega arith) _ c.linked_rows-rows.ensures
+    free-nowhere c.args.pool.now _ c.loop-i.i c.loop-i.invariant (omega arith)

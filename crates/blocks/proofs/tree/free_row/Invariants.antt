@@ -4,6 +4,3 @@ use Rattle.blocks.proofs.tree.free_row.Given as goal
 
 abbrev pub invariant-loop-i : goal.invariant-loop-i
 invariant-loop-i l = Sought l.pool l.taken l.i
-
-abbrev pub decreases-loop-i : goal.decreases-loop-i
-decreases-loop-i l = l.i

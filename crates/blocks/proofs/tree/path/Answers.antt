@@ -24,7 +24,7 @@ pub returns-then-pool-at : goal.returns-then-pool-at
 returns-then-pool-at c =
     record {
       end =
-          along-found c.args.pool.now c.args.va c.loop-next.bits c.loop-next.side c.loop-next.at c.loop-next.above
+          along-found c.args.pool.now c.args.va c.loop-next.bits _ c.loop-next.at c.loop-next.above
           c.loop-next.next
           c.loop-next.invariant c.loop-next-test.true c.if-next-above.true
           c.if-pool-at.true;
@@ -47,15 +47,15 @@ loop-next-smaller c = omega (arith, leb-true)
 
 pub loop-next-preserved : goal.loop-next-preserved
 loop-next-preserved c =
-    along-more c.args.pool.now c.args.va c.loop-next.bits c.loop-next.side c.loop-next.at c.loop-next.above c.loop-next.next
+    along-more c.args.pool.now c.args.va c.loop-next.bits _ c.loop-next.at c.loop-next.above c.loop-next.next
     c.loop-next.invariant c.loop-next-test.true
-    c.if-next-above.true c.if-pool-at.false _ c.link_in-next-in-loop-next.ensures
+    c.if-next-above.true c.if-pool-at.false _ c.side_of-side.ensures _ c.link_in-next-in-loop-next.ensures
 
 pub returns-else-next-above : goal.returns-else-next-above
 returns-else-next-above c =
     record {
       end =
-          along-left c.args.pool.now c.args.va c.loop-next.bits c.loop-next.side c.loop-next.at c.loop-next.above c.loop-next.next
+          along-left c.args.pool.now c.args.va c.loop-next.bits _ c.loop-next.at c.loop-next.above c.loop-next.next
           c.loop-next.invariant (below_none c.loop-next.above c.loop-next.next c.if-next-above.false);
     }
 
@@ -63,6 +63,6 @@ pub returns-after-loop-next : goal.returns-after-loop-next
 returns-after-loop-next c =
     record {
       end =
-          along-left c.args.pool.now c.args.va c.loop-next.bits c.loop-next.side c.loop-next.at c.loop-next.above c.loop-next.next
+          along-left c.args.pool.now c.args.va c.loop-next.bits _ c.loop-next.at c.loop-next.above c.loop-next.next
           c.loop-next.invariant (below-is c.loop-next.above c.loop-next.next (omega arith) ∙ omega arith);
     }

@@ -6,6 +6,6 @@ pub returns : goal.returns
 returns c =
     record {
       answer =
-          took_four _ _ _ _ _ _ c.requires.1 c.requires.2 _ _ _ _ _ _ _ _ _ _ _ _ c.take_one-a.ensures.answer
+          took_four _ _ _ _ _ _ c.requires.0 c.requires.1 _ _ _ _ _ _ _ _ _ _ _ _ c.take_one-a.ensures.answer
           c.take_one-b.ensures.answer c.take_one-c.ensures.answer c.take_one-d.ensures.answer;
     }

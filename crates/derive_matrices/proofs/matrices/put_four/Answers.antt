@@ -1,6 +1,6 @@
 -- Four rows more, each of its bone's own walk.
-use native.Mathlib.Omega.{arith}
-use Rattle.rows.proofs.Rows.{length-bones_of}
+use lib.ListN.{length-map}
+use Rattle.format.specs.Rows.{bone_of}
 use Rattle.derive_matrices.proofs.MatrixWords.{length-inverse_of, inverse-walked}
 use Rattle.derive_matrices.proofs.Placing.{continues_four}
 use Rattle.derive_matrices.proofs.matrices.put_four.Goals as goal
@@ -9,8 +9,8 @@ pub returns : goal.returns
 returns c =
     record {
       rows =
-          let l = length-bones_of _ _ in
-          continues_four _ (length-inverse_of _) (omega (arith, c.requires.1, c.requires.2))
+          let l = length-map c.args.bones.now bone_of in
+          continues_four _ (length-inverse_of _) c.requires.1 c.requires.2
           (inverse-walked _ _ _ _ _ _ l c.joint_in-a.ensures.answer c.side_by_side-f.ensures.answer.first)
           c.put_inverse.ensures.rows
           (inverse-walked _ _ _ _ _ _ l c.joint_in-b.ensures.answer c.side_by_side-f.ensures.answer.second)

@@ -8,4 +8,4 @@ use Rattle.derive_matrices.proofs.walk.float_in.Goals as goal
 pub float_from_bits-result : goal.float_from_bits-result
 float_from_bits-result g c =
     plain_word _
-    (c.requires.0.table.plains (ap not (ne_eqb g.row.PLAIN 0 c.if-this-ne0.true)) _ c.requires.0.below _ c.requires.1)
+    (c.requires.0.plains (ap not (ne_eqb g.row.PLAIN 0 c.if-this-ne0.true)) _ c.requires.1)

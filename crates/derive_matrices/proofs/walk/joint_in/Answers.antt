@@ -6,6 +6,6 @@ pub returns : goal.returns
 returns g c =
     record {
       answer =
-          joint_made c.args.bones.now c.args.p c.float_in.ensures.answer c.float_in-2.ensures.answer c.float_in-3.ensures.answer
+          joint_made c.args.row.now c.float_in.ensures.answer c.float_in-2.ensures.answer c.float_in-3.ensures.answer
           c.float_in-4.ensures.answer c.float_in-5.ensures.answer c.float_in-6.ensures.answer c.float_in-7.ensures.answer;
     }

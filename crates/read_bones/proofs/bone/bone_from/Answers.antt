@@ -28,10 +28,10 @@ pub returns-in_err-put_at : goal.returns-in_err-put_at
 returns-in_err-put_at c =
     let p = err_from_is_err_and c.from_residual-in_err-put_at.result c.from_residual-in_err-put_at.ensures.1 in
     rw (p.1, p.2) (bone-full _ c.args.b.now c.args.va c.args.used _ c.read.ensures.answer c.read_name.ensures c.in_ok-name.was _
-    c.put_bone.ensures.answer c.in_ok-put_bone.was (c.put_at.ensures.table.at c.place-i.ensures.row) _ c.in_err-put_at.was)
+    c.put_bone.ensures.answer c.in_ok-put_bone.was (c.put_at.ensures.table.at c.place-spot.ensures.row) _ c.in_err-put_at.was)
 
 pub returns : goal.returns
 returns c =
     bone-done _ c.args.b.now c.args.va c.args.used _ c.read.ensures.answer c.read_name.ensures c.in_ok-name.was _
-    c.put_bone.ensures.answer c.in_ok-put_bone.was (c.put_at.ensures.table.at c.place-i.ensures.row) c.bone_in.result
+    c.put_bone.ensures.answer c.in_ok-put_bone.was (c.put_at.ensures.table.at c.place-spot.ensures.row) c.bone_in.result
     c.bone_in.ensures c.put_bone.ensures.rows c.in_ok-put_at.was

@@ -11,11 +11,11 @@ returns-then-va-eq0 c = no_name _ _ c.if-va-eq0.true
 pub returns-in_err-cached_at : goal.returns-in_err-cached_at
 returns-in_err-cached_at c =
     let p = err_from_is_err_and c.from_residual.result c.from_residual.ensures.1 in
-    rw (p.1, p.2) (name-other c.if-va-eq0.false (c.cached_at.ensures.answer.at _ c.place-i.ensures.row) c.in_err-cached_at.was)
+    rw (p.1, p.2) (name-other c.if-va-eq0.false (c.cached_at.ensures.answer.at _ c.place-spot.ensures.row) c.in_err-cached_at.was)
 
 pub returns-in-None : goal.returns-in-None
 returns-in-None c =
-    name-unread c.if-va-eq0.false (c.cached_at.ensures.answer.at _ c.place-i.ensures.row) (c.in_ok-cached_at.was ∙ ap Ok c.in-None.is) c.new_name.ensures
+    name-unread c.if-va-eq0.false (c.cached_at.ensures.answer.at _ c.place-spot.ensures.row) (c.in_ok-cached_at.was ∙ ap Ok c.in-None.is) c.new_name.ensures
 
 pub returns-in-Some : goal.returns-in-Some
-returns-in-Some c = name_again c.if-va-eq0.false (c.cached_at.ensures.answer.at _ c.place-i.ensures.row) (c.in_ok-cached_at.was ∙ ap Ok c.in-Some.is)
+returns-in-Some c = name_again c.if-va-eq0.false (c.cached_at.ensures.answer.at _ c.place-spot.ensures.row) (c.in_ok-cached_at.was ∙ ap Ok c.in-Some.is)

@@ -1,11 +1,7 @@
 -- `read_bones::columns::keep_columns` meets its contract.
 -- The loop's invariant: the rows passed have taken their columns. Assumes nothing.
-use Rattle.std.proofs.Common.{◌-◌}
 use Rattle.read_bones.proofs.Keeping.{Keeping}
 use Rattle.read_bones.proofs.columns.keep_columns.Given as goal
 
 abbrev pub invariant-loop-row : goal.invariant-loop-row
 invariant-loop-row l = Keeping l.n l.words l.local l.initial.bones l.row l.bones
-
-abbrev pub decreases-loop-row : goal.decreases-loop-row
-decreases-loop-row l = l.n - l.row
