@@ -1,5 +1,5 @@
 -- The laws of kinds and their codes: each kind has its own code, from 1 to 15, and is told by it. Assumes nothing.
-use mathlib.Core.Path.{◌≡◌, refl, sym, ap, ◌∙◌}
+use mathlib.Core.Path.{◌≡◌, refl}
 use Prim.Native.Nat.{ℕ, ◌<◌}
 use native.Mathlib.Omega.{arith}
 use borrow.Author.Tests.{ne_eqb}
@@ -43,9 +43,6 @@ kind_from-kind_code (list inverse_table) = refl
 kind_from-kind_code (list local_table) = refl
 kind_from-kind_code (list parents_table) = refl
 kind_from-kind_code (list children_table) = refl
-
-pub kind_code_inj : (k l : Kind) → kind_code k ≡ kind_code l → k ≡ l
-kind_code_inj k l e = sym (kind_from-kind_code k) ∙ ap kind_from e ∙ kind_from-kind_code l
 
 -- a number that is none of the first nine codes
 pub kind_from-rest :

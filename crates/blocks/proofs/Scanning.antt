@@ -86,12 +86,6 @@ module _ (t : List ℕ) (a from to : ℕ) where
               (eq-or-lt_of_le {n = k} {m = i} (omega arith));
         }
 
-    pub scanned-here : i < to → (0 < key t i → key t i ≡ suc a) → FirstAt t a from to i
-    scanned-here l e = record { low = p.low; high = l; passed = p.passed; ends = e }
-
-    pub scanned-past : to ≤ i → Scanned t a from to None
-    scanned-past h k l m = p.passed k l (omega arith)
-
 -- ---- near the home
 
 module _ (t : List ℕ) (a h : ℕ) (is : h ≡ home_of a (pool_rows t)) where

@@ -34,7 +34,7 @@ impl<'a> Cursor<'a> {
 
     // The next k bytes, or none where not all of them stand, which it marks. It leaves the cursor behind them, past the end too.
     #[tactic(auto, unfolding(format::specs::Field::which_list))]
-    fn take(&mut self, k: usize) -> &'a [u8]
+    pub fn take(&mut self, k: usize) -> &'a [u8]
         ensures bytes { result.now ≡ read_by (standing_bytes k) self.old }
         ensures cursor { self.new ≡ taken k self.old }
     {

@@ -4,7 +4,7 @@ ghost use Rattle.format.specs.Tables.{same_kind};
 ghost use Rattle.blocks.specs.Kinds.{meant_table, meant_kind, kind_code, kind_from, of_matrices};
 
 // The four tables that a plain array is read into.
-#[derive(Clone, Copy, PartialEq, Eq)]
+#[derive(Clone, Copy, Debug, PartialEq, Eq)]
 pub enum ListTable {
     Inverse,
     Local,
@@ -21,7 +21,8 @@ impl ListTable {
     }
 }
 
-#[derive(Clone, Copy, PartialEq, Eq)]
+// What an address was read as.
+#[derive(Clone, Copy, Debug, PartialEq, Eq)]
 pub enum Kind {
     Skeleton,
     Buckets,

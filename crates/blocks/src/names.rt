@@ -26,8 +26,7 @@ impl<'a> Section<'a> {
     pub fn name(self, place: Place) -> &'a [u8]
         ensures answer { result.now ≡ name_bytes (section_of self.entry) (meant_place place) }
     {
-        self.slice(place.address, place.size as usize)
-            .unwrap_or(&[])
+        self.slice_or_none(place.address, place.size as usize)
     }
 }
 

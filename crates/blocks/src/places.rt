@@ -2,7 +2,7 @@
 // lent as its two halves, the system bytes and the graphics bytes.
 ghost use Rattle.std.specs.Prelude.{◌≡◌, length, IfOk};
 ghost use Rattle.format.specs.Refusal.{outcome_by};
-ghost use Rattle.format.specs.Section.{part, array, spot};
+ghost use Rattle.format.specs.Section.{part, array, or_none, spot};
 ghost use Rattle.blocks.specs.Places.{section_of, lent, rest, spot_at};
 
 use format::Refusal;
@@ -25,7 +25,7 @@ pub struct Section<'a> {
 impl<'a> Section<'a> {
     // The half that an address leads into, and the offset there, past the half's end too. 10 where it is in neither half.
     #[tactic(auto, unfolding(format::specs::Section::spot))]
-    fn half(self, va: u64) -> Result<(&'a [u8], usize), Refusal>
+    pub fn half(self, va: u64) -> Result<(&'a [u8], usize), Refusal>
         ensures answer { outcome_by spot_at result ≡ spot (section_of self.entry) va }
     {
         let offset = (va % WINDOW) as usize;
@@ -47,6 +47,13 @@ impl<'a> Section<'a> {
             return Err(Refusal::PastTheEnd);
         }
         Ok(&half[offset..offset + n])
+    }
+
+    // The same; none where they do not all stand.
+    pub fn slice_or_none(self, va: u64, n: usize) -> &'a [u8]
+        ensures answer { result.now ≡ or_none (part (section_of self.entry) va n) }
+    {
+        self.slice(va, n).unwrap_or(&[])
     }
 
     // The n bytes of an array, of which an empty one is not looked for.

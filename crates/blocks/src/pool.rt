@@ -3,8 +3,10 @@
 // first and the count of what is stored (of a name, its address and its size). The code word has the kind's code, 0 for a free row, so
 // that any address has its row, and the links of the tree. A table of n words has n / 4 rows; the words behind the last row are not used.
 // Callers carry `Represents t n q`, that the table t of n rows holds the pool q, from the cleared table, which holds the empty pool,
-// through every `put`. Of a table that holds no pool nothing is promised but safety.
-ghost use Rattle.std.specs.Prelude.{◌≡◌, ℕ, ◌+◌, ◌≤◌, ◌<◌};
+// through every `put`. Of a table that holds no pool nothing is promised but safety. (No struct of the pool: what the table holds is no invariant
+// of a lent slice, and only the callers know from where on it does.)
+ghost use Rattle.std.specs.Prelude.{◌≡◌, ℕ, ◌+◌, ◌≤◌, ◌<◌, IfErr};
+ghost use Rattle.format.specs.declared.Refusal.TheVariants.{TableTooShort};
 ghost use Rattle.blocks.specs.Kinds.{meant_kind};
 ghost use Rattle.blocks.specs.Hashed.{pool_rows, home_of, EndsAt, Scanned, PlacedAt, with_row};
 ghost use Rattle.blocks.specs.Pool.{pool_row, Finds, FindsAs, Stores, FindsAt, FindsAsAt, StoresAt};
@@ -15,27 +17,27 @@ use crate::tree::Ended;
 use format::{POOL_WORDS, Refusal};
 
 // Where what was read is stored: its first row and how many; of a name, its address and its size.
-#[derive(Clone, Copy, PartialEq, Eq)]
+#[derive(Clone, Copy, Debug, PartialEq, Eq)]
 pub struct Stored {
     pub first: u64,
     pub count: u64,
 }
 
 // What was read at an address.
-#[derive(Clone, Copy, PartialEq, Eq)]
+#[derive(Clone, Copy, Debug, PartialEq, Eq)]
 pub struct Pooled {
     pub kind: Kind,
     pub stored: Stored,
 }
 
 // Where the search for an address ends.
-#[derive(Clone, Copy)]
+#[derive(Clone, Copy, Debug, PartialEq, Eq)]
 pub enum Spot {
     // at a row: its own, or a free one
     Row(usize),
     // at no row, and the tree has this free one for it
     Tree(usize),
-    // at no row, and none is free
+    // at no row, and none is free: `put_at` refuses
     Full,
 }
 
@@ -115,9 +117,9 @@ fn search(pool: &[u64], va: u64, h: usize) -> Spot
 }
 
 // Where the search for an address ends: at its own row, or a free one near its home; else, where the tree has a free row for it, at that
-// one. One search serves `cached_at` and `put_at`, as long as no other row is stored between them. It looks at 16 rows near the home, and at
-// 65 of the tree at most (specs/Bound.antt); mostly it ends at the home itself, which is asked here, so that the rest is not in the code of
-// every caller.
+// one. One search serves `cached_at` and `put_at`, as long as no other row is stored between them. It looks at 16 rows near the home, and along
+// 65 of the tree at most (specs/Bound.antt), and then for the tree's free row; mostly it ends at the home itself, which is asked here, so that
+// the rest is not in the code of every caller.
 pub fn place(pool: &[u64], va: u64) -> Spot
     ensures row { PlacedAt pool.now va result }
 {
@@ -196,6 +198,7 @@ fn store(pool: &mut [u64], i: usize, va: u64, kind: Kind, stored: Stored)
 // Pools what was read at an address, in the place of the earlier row of the address if there is one. The table then holds the
 // pool with the row; 1 where the address has none and no row is free, and then every word is as it was.
 pub fn put(pool: &mut [u64], va: u64, kind: Kind, stored: Stored) -> Result<(), Refusal>
+    ensures refusal { IfErr result (λ r. r ≡ TableTooShort) }
     ensures table { Stores (pool_row va (meant_kind kind) stored.first stored.count) result pool.old pool.new }
 {
     let rows = pool.len() / POOL_WORDS;
@@ -221,13 +224,14 @@ pub fn put_at(
     kind: Kind,
     stored: Stored,
 ) -> Result<(), Refusal>
+    ensures refusal { IfErr result (λ r. r ≡ TableTooShort) }
     ensures table { StoresAt spot (pool_row va (meant_kind kind) stored.first stored.count) result pool.old pool.new }
 {
-    if let Spot::Row(i) = spot {
-        if i < pool.len() / POOL_WORDS {
+    match spot {
+        Spot::Row(i) if i < pool.len() / POOL_WORDS => {
             store(pool, i, va, kind, stored);
-            return Ok(());
+            Ok(())
         }
+        _ => put(pool, va, kind, stored),
     }
-    put(pool, va, kind, stored)
 }

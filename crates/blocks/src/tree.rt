@@ -93,7 +93,7 @@ fn side_of(bits: u64) -> Side
     }
 }
 
-// Where the path of an address ends. (A `while`: each link is read from the row before, and their number is not known.)
+// Where the path of an address ends. (A `while`: each link is read from the row before.)
 pub(crate) fn path(pool: &[u64], va: u64) -> Ended
     requires { 0 < pool_rows pool.now }
     ensures { PathEnds pool.now va result }
@@ -110,7 +110,7 @@ pub(crate) fn path(pool: &[u64], va: u64) -> Ended
             return Ended::At(at);
         }
         side = side_of(bits);
-        bits = bits / 2;
+        bits /= 2;
         next = link_in(pool[POOL_WORDS * at + 1], side) as usize;
     }
     Ended::Behind(at, side)

@@ -1,8 +1,7 @@
 -- `==` of slices, and two lists compared element by element, from their first on. Assumes nothing.
-use Rattle.std.proofs.Common.{◌≡◌, refl, ap, Bool, true, false, ◌&&◌, ℕ, suc, ◌+◌, ◌≤◌, ◌<◌, List, [], ◌∷◌, length, get_or, drop}
+use Rattle.std.proofs.Common.{◌≡◌, refl, ap, arith, Bool, true, false, ◌&&◌, suc, List, [], ◌∷◌, length}
 use Rattle.std.specs.Cmp.Lexicographic.{pointwise}
-use Rattle.std.proofs.lemmas.List.{drop_more}
-use lib.ListN.{drop_of_length-le}
+use Rattle.std.specs.List.{list_all, zip}
 use Rattle.format.specs.Check.{same_list}
 
 module _ {A : Type 0} (f : A → A → Bool) where
@@ -25,14 +24,10 @@ module _ {A : Type 0} (f : A → A → Bool) where
       by true e = e
       by false e = refl
 
-  -- the test of the elements x and y at i, and then of those behind
-  pub same_turn :
-      (l m : List A) (d : A) (i : ℕ) → i < length l → i < length m → {x y : A} → x ≡ get_or l i d → y ≡ get_or m i d →
-      {r : Bool} → r ≡ f x y →
-      same_list f (drop i l) (drop i m) ≡ (r && same_list f (drop (i + 1) l) (drop (i + 1) m))
+  -- the test of each pair
+  pub same_pairs : (l m : List A) → length l ≡ length m → list_all (λ p. f p.0 p.1) (zip l m) ≡ same_list f l m
   unfolding same_list
-  same_turn l m d i h k ex ey er = rw (drop_more l i d h, drop_more m i d k, er, ex, ey)
-
-  pub same_end : (l m : List A) (i : ℕ) → length l ≤ i → length m ≤ i → true ≡ same_list f (drop i l) (drop i m)
-  unfolding same_list
-  same_end l m i h k = rw (drop_of_length-le l h, drop_of_length-le m k)
+  same_pairs [] [] h = refl
+  same_pairs [] (y ∷ m) h = absurd (omega arith)
+  same_pairs (x ∷ l) [] h = absurd (omega arith)
+  same_pairs (x ∷ l) (y ∷ m) h = ap (λ (b : Bool). f x y && b) (same_pairs l m (omega arith))

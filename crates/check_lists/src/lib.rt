@@ -13,7 +13,8 @@ struct Entry {
     position: u32,
 }
 
-// A row of a table of entries. `link` is 0 at a chain's end, and otherwise one more than the next entry's row.
+// A row of a table of entries. `link` is 0 at a chain's end, and otherwise one more than the next entry's row. (No
+// Option: it is a word of the table.)
 #[derive(Clone, Copy)]
 struct Row {
     entry: Entry,
@@ -99,13 +100,9 @@ pub fn same_chains(
 {
     let links = front(buckets, count);
     let derived_links = front(heads, c);
-    if links.len() != derived_links.len() {
-        return false;
-    }
-    for (&link, &head) in links.iter().zip(derived_links) {
-        if !same_chain(entries, link, derived, head, n) {
-            return false;
-        }
-    }
-    true
+    links.len() == derived_links.len()
+        && links
+            .iter()
+            .zip(derived_links)
+            .all(|(&a, &b)| same_chain(entries, a, derived, b, n))
 }

@@ -1,7 +1,8 @@
 // The stages of the check behind reading (docs/FORMAT.md, "Lookup and check"): whether the working tables have room, and then chains,
 // indices and matrices. Each stage derives from the bones read into working tables, compares with what was read, and leaves its
 // working tables zero. Counts are of words, buckets or bones; what is absent counts 0.
-// (A table stands beside its count, not cut to it: that so many words stand is known of a reading's tables, and not of any that are lent.)
+// (A table stands beside its count, not cut to it: so a reading leaves the two, and comparing cuts the read and the derived alike.
+// Bones and their number are as deriving takes them, which C calls so.)
 #![tactic(auto)]
 
 ghost use Rattle.std.specs.Prelude.{◌≡◌, ◌≤◌, length};
@@ -19,7 +20,6 @@ use derive_chains::tags::build_bone_tags;
 use derive_children::indices::build_indices;
 use derive_matrices::matrices::build_transformations;
 use format::{ENTRY_WORDS, MATRIX_WORDS, Refusal};
-use tables::clear;
 use tables::working::Working;
 
 // ---- room
@@ -82,8 +82,8 @@ pub fn chains_stage(
 {
     let derived = build_bone_tags(bones, n, dbuckets, dentries);
     let r = chains_judged(derived, buckets, count, entries, n, dbuckets, dentries);
-    clear(dbuckets);
-    clear(dentries);
+    dbuckets.fill(0);
+    dentries.fill(0);
     r
 }
 
@@ -137,8 +137,8 @@ pub fn indices_stage(
 {
     let derived = build_indices(bones, n, dparents, dchildren, pending);
     let r = indices_judged(derived, n, parents, p, children, c, dparents, dchildren);
-    clear(dparents);
-    clear(dchildren);
+    dparents.fill(0);
+    dchildren.fill(0);
     r
 }
 
@@ -192,7 +192,7 @@ pub fn matrices_stage(
 {
     let derived = build_transformations(bones, n, dinverse, dlocal);
     let r = matrices_judged(derived, n, inverse, i, local, l, dinverse, dlocal);
-    clear(dinverse);
-    clear(dlocal);
+    dinverse.fill(0);
+    dlocal.fill(0);
     r
 }

@@ -16,7 +16,6 @@ ghost use Rattle.check_steps.specs.Steps.{counts_of, begun, behind, kept_by};
 use check_stages::{chains_stage, indices_stage, matrices_stage, room};
 use format::Refusal;
 use read::{Skeleton, Tables};
-use tables::clear;
 use tables::working::Working;
 
 // How long each part is that was read: in rows, and in words of a list of matrices. What is absent counts 0.
@@ -65,7 +64,7 @@ pub fn begin(
 }
 
 // ---- The three steps: each is a stage, where nothing was refused so far, and else clears the working tables of its own. (No one step takes
-// its stage as a closure: that would hold the tables which the other branch clears.)
+// its stage as a closure: the clearing would stand behind the call of it, and clear once more what the stage has cleared.)
 
 // 21: the chains. The working tables are zero after it.
 pub fn chains_step(
@@ -93,8 +92,8 @@ pub fn chains_step(
         )?;
         return Ok(Some(n));
     }
-    clear(derived_buckets);
-    clear(derived_entries);
+    derived_buckets.fill(0);
+    derived_entries.fill(0);
     v
 }
 
@@ -128,9 +127,9 @@ pub fn indices_step(
         )?;
         return Ok(Some(n));
     }
-    clear(derived_parents);
-    clear(derived_children);
-    clear(pending);
+    derived_parents.fill(0);
+    derived_children.fill(0);
+    pending.fill(0);
     v
 }
 
@@ -161,8 +160,8 @@ pub fn matrices_step(
         )?;
         return Ok(Some(n));
     }
-    clear(derived_inverse);
-    clear(derived_local);
+    derived_inverse.fill(0);
+    derived_local.fill(0);
     v
 }
 

@@ -55,7 +55,7 @@ pub fn in_turn(s: &[u8], pos: usize, base: u64, n: usize) -> Turns
 // How many numbers the turns come to.
 pub const NUMBERS: usize = 15;
 
-// The status that C and Rust are told: 0, or the refusal's number.
+// The status that C and Rust are told: 0, or the refusal's number. (`rig_answers`, which has the like, rests on crates far above this one.)
 fn status(checked: Result<(), Refusal>) -> u64
     ensures { result ≡ status (outcome checked) }
 {
@@ -66,7 +66,7 @@ fn status(checked: Result<(), Refusal>) -> u64
 }
 
 // The numbers of `in_turn` at the front of a lent slice, in their order, the last the status. Where fewer fit, every word is as it
-// was, and the answer is false.
+// was, and the answer is false. (No Result: the export answers C so.)
 pub fn numbers(s: &[u8], pos: usize, base: u64, n: usize, out: &mut [u64]) -> bool
     ensures answer { result ≡ fit out.old }
     ensures slice { out.new ≡ told (in_turn s.entry pos base n) out.old }

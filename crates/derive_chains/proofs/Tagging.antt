@@ -142,37 +142,38 @@ entry_rows_lem tags = refl
 -- ---- the loop
 
 -- the positions below p are entered
-pub record Entering (tags : List ℕ) (n c p : ℕ) (buckets₀ entries₀ buckets entries : List ℕ) : Type 0 where
+pub record Entering (tags : List ℕ) (n p : ℕ) (buckets₀ entries₀ buckets entries : List ℕ) : Type 0 where
   pub within : p ≤ entry_count n
   pub same_buckets : length buckets ≡ length buckets₀
   pub same_entries : length entries ≡ length entries₀
-  pub heads : buckets ≡ laid (buckets_below tags c p) (length buckets₀)
-  pub rows : entries ≡ laid (flat_map entry_words (entries_below tags c p)) (length entries₀)
+  pub heads : buckets ≡ laid (buckets_below tags (length buckets₀) p) (length buckets₀)
+  pub rows : entries ≡ laid (flat_map entry_words (entries_below tags (length buckets₀) p)) (length entries₀)
 
-pub entering_none : {n c : ℕ} {b e : List ℕ} (tags : List ℕ) → TagsRoom n c b e → Entering tags n c 0 b e b e
+pub entering_none : {n : ℕ} {b e : List ℕ} (tags : List ℕ) → TagsRoom n b e → Entering tags n 0 b e b e
 unfolding entries_below flat_map up_from
-entering_none {n} {c} {b} {e} tags r =
+entering_none {n} {b} {e} tags r =
     record {
       within = omega arith;
       same_buckets = refl;
       same_entries = refl;
-      heads = r.buckets_zero ∙ sym (laid_zeros c (length b) (omega (arith, r.counted, r.bucket_room))) ∙ rw (buckets-none tags
-          c);
+      heads = r.buckets_zero ∙ sym (laid_zeros (length b) (length b) (omega arith)) ∙ rw (buckets-none tags (length b)) refl;
       rows = r.entries_zero ∙ sym (laid_none (length e));
     }
 
-module _ {tags : List ℕ} {n c p : ℕ} {b₀ e₀ b e : List ℕ} (room : TagsRoom n c b₀ e₀) (s : Entering tags n c p b₀ e₀ b e) where
+module _ {tags : List ℕ} {n p : ℕ} {b₀ e₀ b e : List ℕ} (room : TagsRoom n b₀ e₀) (s : Entering tags n p b₀ e₀ b e) where
+  abbrev c : ℕ
+  c = length b₀
+
   module _ (inside : p < entry_count n) where
     in_bucket_lem : (tag : ℕ) → tag % c < c
     in_bucket_lem tag = mod-lt tag (omega (arith, buckets_positive n (omega arith), room.counted))
 
     -- what entering position p asks for
-    pub entering_asks : (p < 65535) × (0 < c) × (c ≤ length b) × (3 * p + 3 ≤ length e)
+    pub entering_asks : (p < 65535) × (0 < length b) × (3 * p + 3 ≤ length e)
     entering_asks =
         let k = buckets_positive n (omega arith) in (
           omega (arith, entries_le n, room.few),
-          omega (arith, k, room.counted),
-          omega (arith, room.counted, room.bucket_room, s.same_buckets),
+          omega (arith, k, room.counted, s.same_buckets),
           omega (arith, room.entry_room, s.same_entries),
         )
 
@@ -185,12 +186,12 @@ module _ {tags : List ℕ} {n c p : ℕ} {b₀ e₀ b e : List ℕ} (room : Tags
           length-buckets tags
               c p,
         ) in
-        rw s.heads (get_or-laid (buckets_below tags c p) (length b₀) (get_or tags p 0 % c) k
+        rw s.heads (get_or-laid (buckets_below tags c p) c (get_or tags p 0 % c) k
         ∙ get_or-buckets tags c p (get_or tags p 0 % c) (in_bucket_lem (get_or tags p 0)))
 
     pub entering_more :
-        {tag : ℕ} {b' e' : List ℕ} → tag ≡ get_or tags p 0 → length b' ≡ length b → length e' ≡ length e → TagEntered tag p c b e b' e'
-        → Entering tags n c (p + 1) b₀ e₀ b' e'
+        {tag : ℕ} {b' e' : List ℕ} → tag ≡ get_or tags p 0 → length b' ≡ length b → length e' ≡ length e → TagEntered tag p b e b' e'
+        → Entering tags n (p + 1) b₀ e₀ b' e'
     entering_more {tag} {b'} {e'} t lb le d =
         let i = get_or tags p 0 % c in
         let k : get_or tags p 0 % c < length (buckets_below tags c p) = omega (
@@ -206,10 +207,10 @@ module _ {tags : List ℕ} {n c p : ℕ} {b₀ e₀ b e : List ℕ} (room : Tags
           same_buckets = lb ∙ s.same_buckets;
           same_entries = le ∙ s.same_entries;
           heads =
-              d.bucket ∙ rw (t, s.heads, add-one)
-              (set-laid (buckets_below tags c p) (buckets_below tags c (suc p)) (length b₀) i (suc p) k (set-buckets tags c p) l);
+              d.bucket ∙ rw (t, s.same_buckets, s.heads, add-one)
+              (set-laid (buckets_below tags c p) (buckets_below tags c (suc p)) c i (suc p) k (set-buckets tags c p) l);
           rows =
-              d.entry ∙ rw (t, led_to, s.rows, add-one, words_more)
+              d.entry ∙ rw (t, s.same_buckets, led_to, s.rows, add-one, words_more)
               (sets-laid (entry_words (row_for tags c p)) (flat_map entry_words (entries_below tags c p)) (length e₀) (3 * p)
               (length-entries tags c p) h);
         }
@@ -218,6 +219,6 @@ module _ {tags : List ℕ} {n c p : ℕ} {b₀ e₀ b e : List ℕ} (room : Tags
   entering_all l h =
       let q : p ≡ entry_count n = omega (arith, s.within) in
       record {
-        heads = s.heads ∙ rw (bucket_rows_lem tags, l, room.counted, q);
-        rows = s.rows ∙ rw (entry_rows_lem tags, l, room.counted, q);
+        heads = s.heads ∙ rw (bucket_rows_lem tags, l, room.counted, q) refl;
+        rows = s.rows ∙ rw (entry_rows_lem tags, l, room.counted, q) refl;
       }

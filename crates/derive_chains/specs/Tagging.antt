@@ -35,15 +35,14 @@ unfoldable pub entries_below : List ℕ → ℕ → ℕ → List EntryRow
 entries_below tags c p = map (λ q. entry_row (get_or tags q 0) q (link_below tags c (get_or tags q 0 % c) q)) (up_from 0 p)
 
 -- position p entered: its entry leads to what its bucket led to, and the bucket to it
-pub record TagEntered (tag p count : ℕ) (buckets entries buckets' entries' : List ℕ) : Type 0 where
-  pub bucket : buckets' ≡ set buckets (tag % count) (suc p)
-  pub entry : entries' ≡ sets entries (3 * p) (entry_words (entry_row tag p (get_or buckets (tag % count) 0)))
+pub record TagEntered (tag p : ℕ) (buckets entries buckets' entries' : List ℕ) : Type 0 where
+  pub bucket : buckets' ≡ set buckets (tag % length buckets) (suc p)
+  pub entry : entries' ≡ sets entries (3 * p) (entry_words (entry_row tag p (get_or buckets (tag % length buckets) 0)))
 
--- the tables are zero and have room for n bones in `count` buckets
-pub record TagsRoom (n count : ℕ) (buckets entries : List ℕ) : Type 0 where
+-- the tables are zero, with a word for each bucket of n bones, and room for their entries
+pub record TagsRoom (n : ℕ) (buckets entries : List ℕ) : Type 0 where
   pub few : n ≤ 65535
-  pub counted : count ≡ bucket_count n
-  pub bucket_room : bucket_count n ≤ length buckets
+  pub counted : length buckets ≡ bucket_count n
   pub entry_room : 3 * entry_count n ≤ length entries
   pub buckets_zero : buckets ≡ cleared (length buckets)
   pub entries_zero : entries ≡ cleared (length entries)

@@ -11,9 +11,8 @@ ghost use Rattle.format.specs.Refusal.{outcome, outcome_by};
 ghost use Rattle.derive_chains.specs.Tagging.{tags_hold, tags_result, meant_entry, TagEntered, TagsRoom, Linked};
 
 use crate::buckets::{bucket_count, entry_count};
-use format::{BONE_WORDS, ENTRY_LINK, ENTRY_POSITION, ENTRY_TAG, ENTRY_WORDS, MOST, Refusal};
+use format::{BONE_WORDS, ENTRY_LINK, ENTRY_POSITION, ENTRY_TAG, ENTRY_WORDS, Refusal};
 use rows::{rows_of, tag_at};
-use tables::clear;
 
 // A row of the entries table. `link` is 0 at a chain's end, and otherwise one more than the next entry's row.
 #[derive(Clone, Copy)]
@@ -34,9 +33,6 @@ fn tags_room(
     ensures answer { outcome_by (λ rows. map bone_of rows.now) result
         ≡ derived n (tags_hold n (length bones.now) buckets entries) (bones_of n bones.now) }
 {
-    if n > MOST {
-        return Err(Refusal::TooManyBones);
-    }
     let rows = rows_of(bones, n)?;
     if buckets < bucket_count(n) || entries < ENTRY_WORDS * entry_count(n) {
         return Err(Refusal::TableTooShort);
@@ -65,18 +61,12 @@ fn bucket_of(tag: u16, count: usize) -> usize
 }
 
 // Enters position p, whose bone has this row: its entry goes in front of its bucket's chain.
-fn enter_tag(
-    row: &[u32; BONE_WORDS],
-    p: usize,
-    count: usize,
-    buckets: &mut [u32],
-    entries: &mut [u32],
-)
-    requires { (p < 65535) × (0 < count) × (count ≤ length buckets.old) × (3 * p + 3 ≤ length entries.old) }
-    ensures rows { TagEntered (bone_of row.now).tag p count buckets.old entries.old buckets.new entries.new }
+fn enter_tag(row: &[u32; BONE_WORDS], p: usize, buckets: &mut [u32], entries: &mut [u32])
+    requires { (p < 65535) × (0 < length buckets.old) × (3 * p + 3 ≤ length entries.old) }
+    ensures rows { TagEntered (bone_of row.now).tag p buckets.old entries.old buckets.new entries.new }
 {
     let tag = tag_at(row, 0);
-    let b = bucket_of(tag, count);
+    let b = bucket_of(tag, buckets.len());
     let entry = TagEntry {
         tag: u32::from(tag),
         position: p as u32,
@@ -87,13 +77,13 @@ fn enter_tag(
 }
 
 // Enters all positions that have an entry, rising; the tables are zero.
-fn enter_tags(bones: &[[u32; BONE_WORDS]], count: usize, buckets: &mut [u32], entries: &mut [u32])
-    requires { TagsRoom (length bones.now) count buckets.old entries.old }
+fn enter_tags(bones: &[[u32; BONE_WORDS]], buckets: &mut [u32], entries: &mut [u32])
+    requires { TagsRoom (length bones.now) buckets.old entries.old }
     ensures rows { Linked (tags (map bone_of bones.now)) buckets.old entries.old buckets.new entries.new }
 {
     let entered = &bones[..entry_count(bones.len())];
     for (p, row) in entered.iter().enumerate() {
-        enter_tag(row, p, count, buckets, entries);
+        enter_tag(row, p, buckets, entries);
     }
 }
 
@@ -117,10 +107,10 @@ pub fn build_bone_tags(
         (flat_map entry_words (entry_rows (tags (bones_of n bones.now)))) (length entries.old) }
 {
     let room = tags_room(bones, n, buckets.len(), entries.len());
-    clear(buckets);
-    clear(entries);
+    buckets.fill(0);
+    entries.fill(0);
     let rows = room?;
     let count = bucket_count(n);
-    enter_tags(rows, count, buckets, entries);
+    enter_tags(rows, &mut buckets[..count], entries);
     Ok(count)
 }

@@ -13,10 +13,10 @@ use Rattle.format.specs.Result.{refused, done}
 use Rattle.format.specs.Children.{children}
 use Rattle.format.specs.Deriving.{parents}
 use Rattle.format.specs.Rows.{bone_width, bone_of, bones_of, cleared, laid}
-use Rattle.rows.proofs.Rows.{length_column, got_none, length-rows}
+use Rattle.rows.proofs.Rows.{length_column, length-rows}
 use Rattle.rows.specs.Row.{bones_got}
 use Rattle.tables.specs.Outcome.{derived}
-use Rattle.tables.proofs.Outcome.{no_room, has_room, enough, both_true}
+use Rattle.tables.proofs.Outcome.{refuses_part, has_room, enough, both_true}
 use Rattle.derive_children.specs.Pile.{Listing}
 use Rattle.derive_children.specs.Indexing.{indices_hold, parents_of, children_of, Indexing, indices_of}
 use Rattle.tables.proofs.Laid.{length-cleared}
@@ -38,10 +38,10 @@ module _ (n : ℕ) (t : List ℕ) (m : ℕ) {ps : List ℕ} (e : ps ≡ laid (pa
 
 -- a table that lacks the rows has no room
 pub indices_short :
-    {A : Type 0} (n : ℕ) (t : List ℕ) (p k q : ℕ) (a : A) (c : ℕ) → n ≤ 65535 → refused c ≡ bones_got n t
+    {A : Type 0} (n : ℕ) (t : List ℕ) (p k q : ℕ) (a : A) (c : ℕ) → refused c ≡ bones_got n t
     → refused c ≡ derived n (indices_hold n (length t) p k q) a
-unfolding indices_hold
-indices_short n t p k q a c h r = let g = got_none n t c r in rw g.1 (no_room n _ a h (rw g.0 refl))
+unfolding indices_hold bones_got derived
+indices_short n t p k q a c e' = refuses_part n (leb (bone_width * n) (length t)) _ a (bones_of n t) c (λ q. rw q refl) e'
 
 -- ---- both lists derived
 

@@ -16,11 +16,6 @@ use Rattle.derive_children.proofs.Pushing.{ready-below, stacked-none, kid-rest, 
 
 -- ---- taking one
 
-pub stacked-some : (parents stack : List ℕ) (top : ℕ) → Stacked parents stack top → 0 < top → 0 < length parents
-stacked-some parents stack top s h =
-    let m : top - 1 < top = omega arith in
-    omega (arith, (s.solid (top - 1) m).0, (s.solid (top - 1) m).1)
-
 stacked_less : (parents stack : List ℕ) (top t : ℕ) → t ≤ top → Stacked parents stack top → Stacked parents stack t
 stacked_less parents stack top t h s = record { room = omega (arith, s.room); solid = λ j l. s.solid j (omega arith) }
 

@@ -1,7 +1,9 @@
 // An index of the bones by parent, in the table lent as the pending list: each position leads to the next one with the same
 // parent, and each bone to its first child. A position is held as a word, one more than it; 0 is none.
 // Of n bones the table's words are: next sibling n, first child n, and then the slots n + 1, links n and heads n of the index,
-// which the pile of pending bones overwrites once every bone has its first child. (One table, since C lends one: no call has other memory.)
+// which the pile of pending bones overwrites once every bone has its first child. (One table, since C lends one: no call has other memory.
+// By offsets, and not as five slices: each contract would tell of every one what is stored and what stays.
+// `IndexTable` stands in the contracts: it is of the positions from `i` on, and each that is entered has another `i`.)
 ghost use Rattle.std.specs.Prelude.{◌≡◌, ℕ, suc, ◌+◌, ◌*◌, ◌≤◌, ◌<◌, length};
 ghost use Rattle.format.specs.Children.{positions};
 ghost use Rattle.format.specs.Rows.{cleared};
@@ -75,7 +77,7 @@ fn first_child(parents: &[u16], t: &[u32], v: u16) -> u32
     0
 }
 
-// Each bone's first child, from the index of all positions.
+// Each bone's first child, from the index of all positions. (By index: each call reads the table in which the loop stores.)
 fn first_children(bones: Bones, t: &mut [u32])
     requires { IndexTable bones.parents.now t.old 0 }
     ensures rows { Ready (indices_of bones.entry.rows.now) bones.entry.parents.now t.new }

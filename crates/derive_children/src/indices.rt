@@ -13,9 +13,8 @@ ghost use Rattle.derive_children.specs.Indexing.{Indexing, ListRoom};
 use crate::bones::Bones;
 use crate::index::index_children;
 use crate::pile::{push_roots, put_layers};
-use format::{BONE_WORDS, MOST, Refusal};
+use format::{BONE_WORDS, Refusal};
 use rows::{parent_at, rows_of};
-use tables::clear;
 
 // The rows of the first n bones of a table, where they are few enough, and the table holds them and the others the lists and the work. 2 goes
 // before 1.
@@ -30,9 +29,6 @@ fn indices_room(
     ensures answer { outcome_by (λ rows. map bone_of rows.now) result
         ≡ derived n (indices_hold n (length bones.now) parents children pending) (bones_of n bones.now) }
 {
-    if n > MOST {
-        return Err(Refusal::TooManyBones);
-    }
     let rows = rows_of(bones, n)?;
     if parents < n || children < 8 * (n + 1) || pending < 8 * (n + 1) {
         return Err(Refusal::TableTooShort);
@@ -40,7 +36,7 @@ fn indices_room(
     Ok(rows)
 }
 
-// The parents list; the table is zero.
+// The parents list; the table is zero. (By index: of what is stored through `iter_mut().zip(..)` a proof knows the length alone.)
 fn put_parents(rows: &[[u32; BONE_WORDS]], out: &mut [u16])
     requires { (length rows.now ≤ length out.old) × (out.old ≡ cleared (length out.old)) }
     ensures rows { out.new ≡ laid (parents (map bone_of rows.now)) (length out.old) }
@@ -56,7 +52,7 @@ fn put_children(bones: Bones, pending: &mut [u32], out: &mut [u16]) -> usize
     requires { ListRoom bones.parents.now pending.old out.old }
     ensures answer { Listing (children (indices_of bones.entry.rows.now) bones.entry.parents.now) result out.old out.new }
 {
-    clear(pending);
+    pending.fill(0);
     index_children(bones, pending);
     let start = push_roots(bones, pending);
     put_layers(bones, pending, out, start)
@@ -75,8 +71,8 @@ fn attempt(
         result parents.new children.new }
 {
     let room = indices_room(bones, n, parents.len(), children.len(), pending.len());
-    clear(parents);
-    clear(children);
+    parents.fill(0);
+    children.fill(0);
     let rows = room?;
     put_parents(rows, parents);
     let bones = Bones {
@@ -110,6 +106,6 @@ pub fn build_indices(
     ensures pending { pending.new ≡ cleared (length pending.old) }
 {
     let r = attempt(bones, n, parents, children, pending);
-    clear(pending);
+    pending.fill(0);
     r
 }

@@ -1,5 +1,7 @@
 // The pending list as a pile of words, never expanded: a word stands for its position and all later ones with the same parent.
 // The pile lies behind the next siblings and first children of `index`, and has at most n + 4k words after k layers.
+// (`PileTable` stands in the contracts, and in no ghost field of a struct of the table and `top`: that would have to hold after each word
+// pushed too, and a push would ask for more than room. `Ready` hands the table over from `index`.)
 ghost use Rattle.std.specs.Prelude.{◌≡◌, ℕ, suc, ◌+◌, ◌*◌, ◌≤◌, ◌<◌, length};
 ghost use Rattle.std.proofs.lemmas.List.Edits.{sets};
 ghost use Rattle.format.specs.Children.{pair_at};
@@ -11,7 +13,7 @@ ghost use Rattle.derive_children.specs.Indexing.{indices_of, Rooted};
 use crate::bones::Bones;
 use rows::index_at;
 
-// A bone taken, the word of its first child, and how many words the pile then has.
+// A bone taken, the word of its first child, and how many words the pile then has. (No tuple: the clauses name the three.)
 #[derive(Clone, Copy)]
 struct One {
     bone: usize,
@@ -19,7 +21,8 @@ struct One {
     top: usize,
 }
 
-// The words of the first children of four bones taken, and how many words the pile then has. (By name, as each is pushed by a call of its own.)
+// The words of the first children of four bones taken, and how many words the pile then has. (By name: a clause that reads an array by
+// index names a default for each of its words.)
 #[derive(Clone, Copy)]
 struct Four {
     a: u32,
@@ -54,8 +57,7 @@ fn if_root(p: u16, w: u32) -> u32
 // The pending list at first: the roots' words, the first root's on top.
 pub(crate) fn push_roots(bones: Bones, t: &mut [u32]) -> usize
     requires { Ready (indices_of bones.rows.now) bones.parents.now t.old }
-    ensures answer { Rooted (indices_of bones.entry.rows.now) bones.entry.parents.now result
-        t.new }
+    ensures answer { Rooted (indices_of bones.entry.rows.now) bones.entry.parents.now result t.new }
 {
     let n = bones.parents.len();
     let mut top = 0;
@@ -69,9 +71,7 @@ pub(crate) fn push_roots(bones: Bones, t: &mut [u32]) -> usize
 // Writes the pair (index, parent) of a bone.
 fn put_pair(bones: Bones, out: &mut [u16], at: usize, bone: usize)
     requires { (bone < length bones.parents.now) × (at + 1 < length out.old) }
-    ensures rows { out.new
-        ≡ sets out.old at
-        (pair_at (indices_of bones.entry.rows.now) bones.entry.parents.now bone) }
+    ensures rows { out.new ≡ sets out.old at (pair_at (indices_of bones.entry.rows.now) bones.entry.parents.now bone) }
 {
     out[at] = index_at(&bones.rows[bone], 0);
     out[at + 1] = bones.parents[bone];

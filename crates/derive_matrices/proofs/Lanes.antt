@@ -128,9 +128,9 @@ raise_climb w j s e = rw e refl
 
 -- a step of the pose in lane i
 lane_turn :
-    (rows : List (List ℕ)) (steps : ℕ) (parents s₀ s s' : List Float) (i p₀ p : ℕ) (j : Joint) → steps < length rows → i < 4 → Climb (length rows) p
-    → j ≡ joint_of (bone_of (get_or rows p [])) → lane_of parents i ≡ own_pose j → LanesRaised parents s s' → LaneWalk rows steps s₀ s i p₀ p
-    → LaneWalk rows (steps + 1) s₀ s' i p₀ j.parent
+    (rows : List (List ℕ)) (steps : ℕ) (parents s₀ s s' : List Float) (i p₀ p : ℕ) (j : Joint)
+    → steps < length rows → i < 4 → Climb (length rows) p → j ≡ joint_of (bone_of (get_or rows p [])) → lane_of parents i ≡ own_pose j
+    → LanesRaised parents s s' → LaneWalk rows steps s₀ s i p₀ p → LaneWalk rows (steps + 1) s₀ s' i p₀ j.parent
 lane_turn rows steps parents s₀ s s' i p₀ p j l h c ej ep up w =
     let e : lane_of s' i ≡ climb (bone_of (get_or rows p [])) (lane_of s i) =
     up i h ∙ ap (λ (o : Pose). raised o (lane_of s i)) ep ∙ raise_climb (get_or rows p []) j (lane_of s i) ej in
@@ -138,7 +138,8 @@ lane_turn rows steps parents s₀ s s' i p₀ p j l h c ej ep up w =
 
 pub four_turn :
     (rows : List (List ℕ)) (steps : ℕ) (parents s₀ s s' : List Float) (p₀ q₀ r₀ u₀ p q r u : ℕ) (j k l m : Joint) → steps < length rows
-    → length s' ≡ 28 → Climb (length rows) p × Climb (length rows) q × Climb (length rows) r × Climb (length rows) u → j ≡ joint_of (bone_of (get_or rows p [])) → k ≡ joint_of (bone_of (get_or rows q []))
+    → length s' ≡ 28 → Climb (length rows) p × Climb (length rows) q × Climb (length rows) r × Climb (length rows) u
+    → j ≡ joint_of (bone_of (get_or rows p [])) → k ≡ joint_of (bone_of (get_or rows q []))
     → l ≡ joint_of (bone_of (get_or rows r [])) → m ≡ joint_of (bone_of (get_or rows u []))
     → parents ≡ lanes_of (own_pose j) (own_pose k) (own_pose l) (own_pose m) → LanesRaised parents s s'
     → FourWalks rows steps s₀ s p₀ q₀ r₀ u₀ p q r u

@@ -5,16 +5,17 @@ use native.Mathlib.Omega.{arith}
 use mathlib.Core.Path.{◌≡◌, refl, sym}
 use mathlib.Core.Bool.{true, ◌&&◌}
 use mathlib.Core.List.{List, ◌++◌, map}
-use lib.ListN.{length, take, drop, replicate}
+use lib.ListN.{length, drop}
 use lib.Dec.{leb}
+use borrow.Rule.Slice.PartMut.{put_mid}
 use borrow.Author.Tests.{le-leb, leb-true}
 use Rattle.std.proofs.lemmas.Grind.{common_steps}
 use Rattle.format.specs.Result.{refused, done}
-use Rattle.format.specs.Rows.{bone_width, bone_of, bones_of, laid}
+use Rattle.format.specs.Rows.{bone_width, bone_of, bones_of, laid, cleared}
 use Rattle.rows.specs.Row.{bones_got}
-use Rattle.rows.proofs.Rows.{got_none, length-rows}
+use Rattle.rows.proofs.Rows.{length-rows}
 use Rattle.tables.specs.Outcome.{derived}
-use Rattle.tables.proofs.Outcome.{no_room, has_room, enough, both_true}
+use Rattle.tables.proofs.Outcome.{refuses_part, has_room, enough, both_true}
 use Rattle.derive_matrices.specs.Transforming.{matrices_hold, matrices_result, MatrixRoom, MatricesFirst, MatrixRows}
 
 module _ (n bones inverse local : ℕ) where
@@ -24,16 +25,16 @@ module _ (n bones inverse local : ℕ) where
 
 -- a table that lacks the rows has no room
 pub matrices_short :
-    {A : Type 0} (n : ℕ) (t : List ℕ) (i l : ℕ) (a : A) (c : ℕ) → n ≤ 65535 → refused c ≡ bones_got n t
+    {A : Type 0} (n : ℕ) (t : List ℕ) (i l : ℕ) (a : A) (c : ℕ) → refused c ≡ bones_got n t
     → refused c ≡ derived n (matrices_hold n (length t) i l) a
-unfolding matrices_hold
-matrices_short n t i l a c h r = let g = got_none n t c r in rw g.1 (no_room n _ a h (rw g.0 refl))
+unfolding matrices_hold bones_got derived
+matrices_short n t i l a c e' = refuses_part n (leb (bone_width * n) (length t)) _ a (bones_of n t) c (λ q. rw q refl) e'
 
--- a table filled in front and cleared behind
+-- a table filled in front, and zero behind
 laid_front :
-    (x t t' t'' : List ℕ) (m : ℕ) → m ≤ length t → length t' ≡ length t → t' ≡ x ++ drop m t
-    → t'' ≡ take m t' ++ replicate (length t' - m) 0 → t'' ≡ laid x (length t)
-laid_front x t t' t'' m h l e f = grind (arith, common_steps)
+    (x t t' u : List ℕ) (m : ℕ) → m ≤ length t → length t' ≡ length t → t' ≡ x ++ drop m t → u ≡ cleared (length t' - m)
+    → put_mid m (length t' - m) t' u ≡ laid x (length t)
+laid_front x t t' u m h l e f = grind (arith, common_steps)
 
 -- the rows that were found
 module _
@@ -53,14 +54,14 @@ module _
   matrices_found = rw (length-rows n t rows held.2) (record { inverse = room.0; local = room.1 })
 
   pub matrices_done :
-      {i' i'' l' l'' : List ℕ} → length i' ≡ length i → length l' ≡ length l
-      → MatricesFirst (length rows) (map bone_of rows) i i' l l' → i'' ≡ take (16 * n) i' ++ replicate (length i' - 16 * n) 0
-      → l'' ≡ take (16 * n) l' ++ replicate (length l' - 16 * n) 0
-      → MatrixRows (matrices_result n (length t) (length i) (length l)) (bones_of n t) i i'' l l''
-  matrices_done {i'} {i''} {l'} {l''} ei el f fi fl =
+      {i' u l' v : List ℕ} → length i' ≡ length i → length l' ≡ length l
+      → MatricesFirst (length rows) (map bone_of rows) i i' l l' → u ≡ cleared (length i' - 16 * n) → v ≡ cleared (length l' - 16 * n)
+      → MatrixRows (matrices_result n (length t) (length i) (length l)) (bones_of n t) i (put_mid (16 * n) (length i' - 16 * n) i' u) l
+      (put_mid (16 * n) (length l' - 16 * n) l' v)
+  matrices_done {i'} {u} {l'} {v} ei el f fi fl =
       let g = rw (length-rows n t rows held.2, held.2) at f in
       rw (sym (has_room n _ (tt {0}) held.0 held.1))
       (record {
-        inverse = laid_front _ i i' i'' (16 * n) room.0 ei g.inverse fi;
-        local = laid_front _ l l' l'' (16 * n) room.1 el g.local fl;
+        inverse = laid_front _ i i' u (16 * n) room.0 ei g.inverse fi;
+        local = laid_front _ l l' v (16 * n) room.1 el g.local fl;
       })

@@ -10,10 +10,9 @@ ghost use Rattle.derive_matrices.specs.Transforming.{matrices_hold, matrices_res
 ghost use Rattle.derive_matrices.specs.Transforming.{MatrixRoom, MatricesFirst, MatrixRows, Continues};
 
 use crate::walk::{Climber, Joint, Pose, before, joint_in, plain_rows, side_by_side, walked};
-use format::{BONE_WORDS, MATRIX_WORDS, MOST, Refusal};
+use format::{BONE_WORDS, MATRIX_WORDS, Refusal};
 use math::{Mat4, Vec3};
 use rows::{kept_at, rows_of, scale_at};
-use tables::{clear, clear_from};
 
 // The rows of the first n bones of a table, where they are few enough, and the table holds them and the others their matrices. 2 goes
 // before 1.
@@ -27,9 +26,6 @@ fn matrices_room(
     ensures answer { outcome_by (λ rows. map bone_of rows.now) result
         ≡ derived n (matrices_hold n (length bones.now) inverse local) (bones_of n bones.now) }
 {
-    if n > MOST {
-        return Err(Refusal::TooManyBones);
-    }
     let rows = rows_of(bones, n)?;
     if inverse < MATRIX_WORDS * n || local < MATRIX_WORDS * n {
         return Err(Refusal::TableTooShort);
@@ -140,7 +136,8 @@ fn put_rest<const PLAIN: bool>(bones: &[[u32; BONE_WORDS]], from: usize, inverse
     }
 }
 
-// Stores the local matrices of the bones; the words behind them stay.
+// Stores the local matrices of the bones; the words behind them stay. (By index: of what is stored through an adapter over the table's
+// rows a proof knows the length alone.)
 fn put_locals<const PLAIN: bool>(bones: &[[u32; BONE_WORDS]], local: &mut [u32])
     requires { Walkable PLAIN bones.now × (16 * length bones.now ≤ length local.old) }
     ensures rows { local.new ≡ locals (map bone_of bones.now) ++ drop (16 * length bones.now) local.old }
@@ -185,13 +182,13 @@ pub fn build_transformations(
     let rows = match matrices_room(bones, n, inverse.len(), local.len()) {
         Ok(rows) => rows,
         Err(refusal) => {
-            clear(inverse);
-            clear(local);
+            inverse.fill(0);
+            local.fill(0);
             return Err(refusal);
         }
     };
     put_matrices(rows, inverse, local);
-    clear_from(inverse, MATRIX_WORDS * n);
-    clear_from(local, MATRIX_WORDS * n);
+    inverse[MATRIX_WORDS * n..].fill(0);
+    local[MATRIX_WORDS * n..].fill(0);
     Ok(())
 }

@@ -11,7 +11,7 @@ use format::{
     BONE_WORDS, ROTATION_W, ROTATION_X, ROTATION_Y, ROTATION_Z, SIBLING_AND_PARENT, TRANSLATION_X,
     TRANSLATION_Y, TRANSLATION_Z,
 };
-use math::{Vec3, Vec4, float_of};
+use math::{INFINITY_WORD, SIGN_BIT, Vec3, Vec4, float_of};
 
 // What the parent walk takes from a bone.
 #[derive(Clone, Copy)]
@@ -58,11 +58,6 @@ const LANES: usize = 4;
 
 const LANE_FLOATS: usize = 28;
 
-const SIGN_BIT: u32 = 0x8000_0000;
-
-// The word of +infinity: a word above this, its sign dropped, is a NaN's.
-const INFINITY_WORD: u32 = 0x7F80_0000;
-
 // Whether a word is no NaN's.
 fn plain(w: u32) -> bool
     ensures answer { result ≡ plain_word w }
@@ -85,7 +80,8 @@ pub(crate) fn plain_rows(bones: &[[u32; BONE_WORDS]]) -> bool
 }
 
 // The float at word i of a row. `PLAIN` says here and below that no row has a NaN: its words are then taken as they stand.
-// (A struct of the rows and this fact would keep it in a ghost field, and such a struct takes no `const` parameter of type `bool`.)
+// (The fact is in the contracts, and in no ghost field of a struct of the rows: such a struct takes no `const` parameter of type `bool`,
+// and by a number, 0 or 1, or a type for each it would be no plainer.)
 fn float_in<const PLAIN: bool>(row: &[u32; BONE_WORDS], i: usize) -> f32
     requires { Readable PLAIN row.now × (i < 7) }
     ensures answer { result ≡ float_of (get_or row.now i 0) }
@@ -119,7 +115,7 @@ pub(crate) fn joint_in<const PLAIN: bool>(row: &[u32; BONE_WORDS]) -> Joint
     }
 }
 
-// A bone before its first step.
+// A bone before its first step. (No From: what a joint becomes on the walk depends on the step.)
 pub(crate) fn before(own: Joint) -> Climber
     ensures answer { climber_pose result ≡ own_pose own }
     ensures parent { result.parent ≡ own.parent }

@@ -13,10 +13,6 @@ use Rattle.fields.proofs.Laws.{field-suc, field-add}
 
 -- ---- a number of its bytes
 
-worth : (i b : ℕ) → byte_worth i b ≡ 256 ^ i * b
-worth zero b = omega arith
-worth (suc i) b = mul_comm b (256 ^ suc i)
-
 pub sum-field : (k : ℕ) (s : List ℕ) → k < length s → sum_through (λ i. byte_worth i (get_or s i 0)) k ≡ field (suc k) s 0
 unfolding value_of
 sum-field zero s h = omega (arith, field-suc 0 s 0 h)

@@ -112,9 +112,6 @@ store_other k s at v j b apart =
 
 -- ---- what the code finds, by the answer t of its test, where m and m' are the width as it reads it
 
-pub test_true : (k : ℕ) (s : List ℕ) (at : ℕ) {t : Bool} → t ≡ stands k s at → t ≡ true → at + k ≤ length s
-test_true k s at test e = leb-true (at + k) (length s) (sym test ∙ e)
-
 module _ (k : ℕ) (s : List ℕ) (at : ℕ) {m : ℕ} (size : m ≡ k) {t : Bool} (test : t ≡ stands m s at) where
   pub room : t ≡ true → at + k ≤ length s
   room e = rw size at (leb-true (at + m) (length s) (sym test ∙ e))

@@ -10,7 +10,7 @@ use native.Mathlib.Omega.{arith}
 use borrow.Author.Tests.{le-leb, leb-true}
 use borrow.Rule.Slice.PartMut.{put_mid}
 use lib.ListN.{length, length-map, get_or, take, drop, set, length-append, drop_of_length-le, length-drop}
-use lib.Seq.{take-add, take_all, get_or-take, get_or-drop, drop-cons, drop-drop, sets, sets-eq, length-sets, length-take-le, take_at, drop_at}
+use lib.Seq.{take-add, take_all, drop-cons, drop-drop, sets, sets-eq, length-sets, length-take-le, take_at, drop_at}
 use Rattle.std.proofs.lemmas.List.{get_or-map, take-map, drop-map}
 use Rattle.format.specs.Field.{field, stands, value_of, which_list, words, bytes, word_bytes}
 use Rattle.format.proofs.Fields.{length-bytes}
@@ -61,9 +61,6 @@ put-more p h e = put-one p 0 h e
 
 -- of n words from a place on, the i-th, and how many they are
 module _ (s : List ℕ) (from n : ℕ) where
-  pub part-word : (i : ℕ) → i < n → get_or s (from + i) 0 ≡ get_or (take n (drop from s)) i 0
-  part-word i l = sym (get_or-take n (drop from s) i 0 l ∙ get_or-drop from s i 0)
-
   pub length_part : from + n ≤ length s → length (take n (drop from s)) ≡ n
   length_part h = length-take-le n (drop from s) (simp length-drop (omega arith))
 

@@ -67,10 +67,6 @@ words_take k (suc m) s =
     let t : take k (take (k + k * m) s) ≡ take k s = take-take k (k + k * m) s (omega arith) in
     simp (f, d, t, words_take k m (drop k s))
 
--- words of just their bytes
-pub words-cut : (k m : ℕ) (s : List ℕ) (at : ℕ) → words k m (take (at + k * m - at) (drop at s)) ≡ words k m (drop at s)
-words-cut k m s at = let e : at + k * m - at ≡ k * m = omega arith in rw e (words_take k m (drop at s))
-
 -- ---- the bytes of words
 
 pub word_bytes-append : (k : ℕ) (a b : List ℕ) → word_bytes k (a ++ b) ≡ word_bytes k a ++ word_bytes k b

@@ -21,6 +21,9 @@ pub const BONE_SIZE: usize = 80;
 
 pub const ENTRY_SIZE: usize = 16;
 
+// the bytes of a pointer
+pub const POINTER: usize = 8;
+
 pub const MATRIX_SIZE: usize = 64;
 
 pub const JOINTS_SIZE: usize = 64;
@@ -163,7 +166,8 @@ pub struct Words4 {
     pub w: u32,
 }
 
-// Where a name lies: its address and its length in bytes. Where a row holds one, address 0 is no name.
+// Where a name lies: its address and its length in bytes. Where a row holds one, address 0 is no name. (No Option: a row stores both words as they
+// are, and C reads them so.)
 #[derive(Clone, Copy, Debug, PartialEq, Eq)]
 pub struct Place {
     pub address: u64,

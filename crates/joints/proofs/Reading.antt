@@ -3,7 +3,7 @@
 use mathlib.Core.Path.{◌≡◌, refl, sym, ap, ◌∙◌}
 use mathlib.Core.Bool.{Bool, true, false}
 use Rattle.std.specs.Simd.{first_chunks}
-use Rattle.std.specs.Prelude.{Option, None, Some}
+use Rattle.std.specs.Prelude.{Option, None, Some, Result, Ok, Err, MatchResult, IsOkAnd}
 use mathlib.Core.List.{List, [], ◌++◌, map, flat_map, append_assoc}
 use Prim.Native.Nat.{ℕ, zero, suc, ◌+◌, ◌-◌, ◌*◌, ◌/◌, ◌≤◌, ◌<◌}
 use native.Mathlib.Nat.{mul_comm, mul-suc, sub-zero, mul-div_cancel}
@@ -13,14 +13,17 @@ use lib.Dec.{leb}
 use lib.ListN.{length, take, drop, replicate, length-replicate, length-drop}
 use lib.Seq.{length-take-le, take_at, drop_at}
 use Rattle.format.specs.Result.{Res, refused, done, ◌>>=◌, need}
+use Rattle.format.specs.Refusal.{outcome_by}
+use Rattle.format.specs.declared.Refusal.{Refusal}
 use Rattle.format.specs.Field.{field_at, words}
 use Rattle.format.specs.Section.{Section, Spot, spot, part, array}
 use Rattle.format.specs.Rows.{laid, cleared}
 use Rattle.format.specs.Joints.{rotation_limit, rotation_row, rotation_words, translation_limit, translation_row, translation_words}
 use Rattle.format.specs.Joints.{limit_rows, limits, mapped, Joints, read_joints}
 use Rattle.fields.proofs.Laws.{field_at-stands}
-use Rattle.joints.specs.Reading.{record_of, counted, table_of, lists_read, limits_in, joints_in, words_of, rotation_table, translation_table}
+use Rattle.joints.specs.Reading.{record_of, counted, table_of, lists_read, limits_in, joints_in, joints_if, words_of, rotation_table, translation_table}
 use Rattle.joints.specs.declared.read.Record.{Record}
+use Rattle.joints.specs.declared.read.Joints as declared
 use Rattle.joints.proofs.Chunks.{chunks-words, length-limit_rows, flat_map-map}
 use Rattle.joints.proofs.BothKinds.{length_rotation, length_translation, rotation_back_lem, translation_back_lem}
 use Rattle.fields.proofs.WordLists.{length-words}
@@ -345,3 +348,13 @@ module _ (sec : Section) (root : ℕ) (rt₀ st₀ : List ℕ) where
         Reading a rt st
     reading_lists rt₁ st₁ a e l m ea er es =
         rw (read_found sec (length rt₀ / 49) (length st₀ / 16) root h, ← e) (rw (l, m) at ea, (rw (l, m) at er, rw (l, m) at es))
+
+-- joints that the code names, as the definitions do
+pub lists_named :
+    (rt st : List ℕ) (r : Result declared.Joints Refusal) (q : Result (Option declared.Joints) Refusal)
+    {P : declared.Joints → Option declared.Joints → Type 0} → ((x : declared.Joints) (k : Option declared.Joints) → P x k → k ≡ Some x) →
+    MatchResult r (λ x. IsOkAnd q (P x)) (λ e. q ≡ Err e) →
+    outcome_by (joints_if rt st) q ≡ outcome_by (λ j. Some (joints_in rt st j)) r
+lists_named rt st (Ok x) (Ok k) h m = ap (λ (o : Option declared.Joints). done (joints_if rt st o)) (h x k m)
+lists_named rt st (Ok x) (Err e) h m = absurd m
+lists_named rt st (Err e) q h m = ap (outcome_by (joints_if rt st)) m

@@ -145,5 +145,5 @@ pub fn read(
         return Ok(None);
     }
     let fields = load_record(section.slice(root, format::JOINTS_READ)?);
-    Ok(Some(read_lists(section, fields, rotation, translation)?))
+    read_lists(section, fields, rotation, translation).map(Some)
 }

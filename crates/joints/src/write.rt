@@ -12,7 +12,7 @@ use crate::limits::{Limit, Rotation, Translation};
 use crate::{rows, words};
 use format::Refusal;
 
-// The limits in the first `count` rows of a table.
+// The limits in the first `count` rows of a table. (Both, since C lends a table and how many of its rows count.)
 #[derive(Clone, Copy)]
 pub struct Rows<'a, const WORDS: usize> {
     pub table: &'a [u32],

@@ -8,11 +8,8 @@ ghost use Rattle.format.specs.Lookup as Definitions;
 ghost use Rattle.blocks.specs.Places.{section_of};
 
 use blocks::places::Section;
-use format::Refusal;
+use format::{POINTER, Refusal};
 use read_records::{entry, header};
-
-// The bytes of a bucket's pointer.
-const POINTER: usize = 8;
 
 // Along the links from an address, to the first entry with the tag or to a 0 link, which gives none. With n entries visited and
 // another linked, 14, before its address is examined: 10, 11.

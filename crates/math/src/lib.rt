@@ -32,10 +32,10 @@ pub struct Vec4 {
 #[derive(Clone, Copy)]
 pub struct Mat4(pub [f32; 16]);
 
-const SIGN_BIT: u32 = 0x8000_0000;
+pub const SIGN_BIT: u32 = 0x8000_0000;
 
 // The word of +infinity: a word above this, its sign dropped, is a NaN's.
-const INFINITY_WORD: u32 = 0x7F80_0000;
+pub const INFINITY_WORD: u32 = 0x7F80_0000;
 
 const NAN_WORD: u32 = 0x7FC0_0000;
 

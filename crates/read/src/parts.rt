@@ -37,7 +37,7 @@ fn buckets_in(
     Ok(array.map(|array| array.stored.count as usize))
 }
 
-// The same, each table lent by itself.
+// The same, each table lent by itself. (Two functions: of one that makes the struct and goes on with the answer the proof did not close.)
 fn chains_in(
     section: Section,
     va: u64,
@@ -69,7 +69,8 @@ fn bones_in(
     ensures { ReadsBonesIn (section_of section.entry) pointer n result
         bones.old bones.new pool.old pool.new }
 {
-    let block = read_bones::read_block(section, pointer, n as usize, bones, 0, pool)?;
+    let mut tables = read_bones::Tables { bones, pool };
+    let block = read_bones::read_block(section, pointer, n as usize, &mut tables, 0)?;
     Ok(block.map(|block| block.stored.count as usize))
 }
 

@@ -1,6 +1,6 @@
 -- The ways out of `new_block` and `read_block`. Assumes nothing.
 use Rattle.std.proofs.Common.{◌≡◌, ℕ, zero, suc, ◌+◌, ◌-◌, ◌<◌, ◌≤◌, leb, List, ◌++◌, length, sym, refl, ap, ◌∙◌, subst, zero-add, arith, le-leb}
-use Rattle.std.specs.Prelude.{Option, Some, None, Result, Ok, Err}
+use Rattle.std.specs.Prelude.{Option, Some, None, Result, Ok, Err, MatchResult, IsOkAnd}
 use borrow.Author.Tests.{lt-leb}
 use Rattle.format.specs.Refusal.{number}
 use Rattle.format.specs.Result.{Res, refused, done, ◌>>=◌, need}
@@ -277,6 +277,14 @@ module _ (sec : Section) (pointer n used : ℕ) (b₀ p₀ : List ℕ) where
           record {
             reads = λ room t before i. record { bones = t.bones; pool = t.pool; answer = asked room t before e; table = tt };
           }
+
+-- a new block, named by the code
+pub named_as :
+    (r : Result Block Refusal) (q : Result (Option Block) Refusal) {P : Block → Option Block → Type 0} →
+    ((x : Block) (k : Option Block) → P x k → k ≡ Some x) → MatchResult r (λ x. IsOkAnd q (P x)) (λ e. q ≡ Err e) → named r ≡ q
+named_as (Ok x) (Ok k) h m = ap Ok (sym (h x k m))
+named_as (Ok x) (Err e) h m = absurd m
+named_as (Err e) q h m = sym m
 
 -- an answer that is told another way
 pub block_by :

@@ -1,11 +1,9 @@
 -- Column 4 of the local matrices: the kept words of one row, and the loop of `keep_columns`. Assumes nothing.
-use Rattle.std.proofs.Common.{◌≡◌, ℕ, zero, suc, ◌+◌, ◌-◌, ◌*◌, ◌/◌, ◌<◌, ◌≤◌, List, [], ◌∷◌, ◌++◌, length, get_or, take, drop, set, replicate, sym, refl, ap, ◌∙◌, append_assoc, suc-add, zero-add, add-one, arith, length-drop, drop_of_length-le, length-take, get_or-drop, drop-drop}
+use Rattle.std.proofs.Common.{◌≡◌, ℕ, zero, suc, ◌+◌, ◌-◌, ◌*◌, ◌/◌, ◌<◌, ◌≤◌, List, [], ◌∷◌, ◌++◌, length, get_or, take, drop, set, replicate, sym, refl, ap, ◌∙◌, append_assoc, suc-add, zero-add, arith, length-drop, drop_of_length-le, get_or-drop, drop-drop}
 use mathlib.Core.List.{flat_map}
 use mathlib.Core.Logic.{⊎_elim}
 use Prim.Native.Nat.{min}
 use Rattle.blocks.proofs.Cases.{le-or-lt}
-use native.Mathlib.Nat.{sub-zero}
-use native.Mathlib.Numerals.{add-two, add-three}
 use lib.Seq.{sets, length-sets, take-append-le}
 use Rattle.format.specs.Section.{Place}
 use Rattle.format.specs.Bone.{Bone, Words4, words4, keeping}
@@ -29,13 +27,6 @@ sets_behind [] front rest i = refl
 sets_behind (v ∷ vs) front rest i =
     let k : suc (length front + i) ≡ length front + suc i = omega arith in
     rw (set-behind front rest i v, k) (sets_behind vs front (set rest i v) (suc i))
-
--- ---- single words
-
-pub sets_four :
-    (t : List ℕ) (at x y z w : ℕ) →
-    set (set (set (set t at x) (at + 1) y) (at + 2) z) (at + 3) w ≡ sets t at (x ∷ y ∷ z ∷ w ∷ [])
-sets_four t at x y z w = simp (add-one, add-two, add-three)
 
 -- ---- the kept words of one row
 
@@ -135,20 +126,10 @@ pub record Rest (n m row : ℕ) (l : List ℕ) (bs : List (Bone Place)) (b : Lis
   pub size : length bones ≡ length bs
   pub left : take_columns (up_from 0 n) l bs ≡ take_columns (up_from row (n - row)) (drop (16 * row) l) bones
 
-pub record Keeping (n words : ℕ) (local b₀ : List ℕ) (row : ℕ) (b : List ℕ) : Type 0 where
+pub record Keeping (n : ℕ) (M b₀ : List ℕ) (row : ℕ) (b : List ℕ) : Type 0 where
   pub within : row ≤ n
   pub same : length b ≡ length b₀
-  pub rest :
-      (m : ℕ) (bs : List (Bone Place)) → BonesIn b₀ m bs → n ≤ length bs → words ≤ length local →
-      Rest n m row (take words local) bs b
-
-pub keeping_none : (n words : ℕ) (local b : List ℕ) → Keeping n words local b 0 b
-keeping_none n words local b =
-    record {
-      within = omega arith;
-      same = refl;
-      rest = λ m bs h l k. record { bones = bs; rows = h; size = refl; left = simp sub-zero };
-    }
+  pub rest : (m : ℕ) (bs : List (Bone Place)) → BonesIn b₀ m bs → n ≤ length bs → Rest n m row M bs b
 
 -- the rest, with its parts put another way
 onward :
@@ -156,14 +137,14 @@ onward :
     take_columns (up_from f i) k (alter r (keeping c) bs) ≡ take_columns (up_from f j) l (alter r (keeping d) bs)
 onward f r bs ec ei ek = rw (ec, ei, ek) refl
 
-module _ {n words : ℕ} {local b₀ : List ℕ} {row : ℕ} {b : List ℕ} (g : Keeping n words local b₀ row b) where
+-- M: the words of the matrices
+module _ {n : ℕ} {M b₀ : List ℕ} {row : ℕ} {b : List ℕ} (g : Keeping n M b₀ row b) where
   pub keeping-more :
-      {x y z w : ℕ} {b' : List ℕ} → row < n → 16 * row < words →
-      x ≡ get_or (take words local) (16 * row + 3) 0 → y ≡ get_or (take words local) (16 * row + 7) 0 →
-      z ≡ get_or (take words local) (16 * row + 11) 0 → w ≡ get_or (take words local) (16 * row + 15) 0 →
-      b' ≡ sets b (21 * row + 13) (x ∷ y ∷ z ∷ w ∷ []) → Keeping n words local b₀ (row + 1) b'
+      {x y z w : ℕ} {b' : List ℕ} → row < n → 16 * row < length M →
+      x ≡ get_or M (16 * row + 3) 0 → y ≡ get_or M (16 * row + 7) 0 →
+      z ≡ get_or M (16 * row + 11) 0 → w ≡ get_or M (16 * row + 15) 0 →
+      b' ≡ sets b (21 * row + 13) (x ∷ y ∷ z ∷ w ∷ []) → Keeping n M b₀ (row + 1) b'
   keeping-more {x} {y} {z} {w} {b'} l k ex ey ez ew eb =
-      let M : List ℕ = take words local in
       let at : ℕ = 16 * row in
       let column : column_words (drop at M) ≡ words4 x y z w =
       simp (get_or-drop at M 3 0, get_or-drop at M 7 0, get_or-drop at M 11 0, get_or-drop at M 15 0, ex, ey, ez, ew)
@@ -172,10 +153,9 @@ module _ {n words : ℕ} {local b₀ : List ℕ} {row : ℕ} {b : List ℕ} (g :
         within = omega arith;
         same = ap length eb ∙ length-sets b (21 * row + 13) (x ∷ y ∷ z ∷ w ∷ []) ∙ g.same;
         rest =
-            λ m bs h r v.
-            let d = g.rest m bs h r v in
-            let long : length M ≡ words = simp length-take (omega arith) in
-            let some_left : 0 < length (drop at M) = simp length-drop (omega (arith, long)) in
+            λ m bs h r.
+            let d = g.rest m bs h r in
+            let some_left : 0 < length (drop at M) = simp length-drop (omega arith) in
             let many : 0 < n - row = omega arith in
             let fewer : n - row - 1 ≡ n - (row + 1) = omega arith in
             let further : at + 16 ≡ 16 * (row + 1) = omega arith in
@@ -191,38 +171,33 @@ module _ {n words : ℕ} {local b₀ : List ℕ} {row : ℕ} {b : List ℕ} (g :
             };
       }
 
-  -- all that is left is done
-  ended :
-      ((m : ℕ) (bs : List (Bone Place)) → BonesIn b₀ m bs → n ≤ length bs → words ≤ length local → (bones : List (Bone Place)) →
-      take_columns (up_from row (n - row)) (drop (16 * row) (take words local)) bones ≡ bones) →
-      KeepsColumns n words local b₀ b
-  ended last =
-      record {
-        keeps =
-            λ m t h o r el k.
-            let L : List ℕ = t.lists.local in
-            let fits : length L ≤ length local = laid-fits L local el in
-            let d = g.rest m t.bones h r (omega arith) in
-            let is : take_columns (up_from 0 n) (take words local) t.bones ≡ d.bones =
-            d.left ∙ last m t.bones h r (omega arith) d.bones
-            in
-            let same : take words local ≡ take words L =
-            ap (take words) el ∙ take-append-le words L (replicate (length local - length L) 0) k
-            in
-            let ms : take n t.members ≡ up_from 0 n = ap (take n) o ∙ take-up_from 0 n (length t.bones) r in
-            rw (ms, ← same, is) d.rows;
-      }
+  module _ {words : ℕ} {local : List ℕ} (front : M ≡ take words local) where
+    -- all that is left is done
+    ended :
+        ((m : ℕ) (bs : List (Bone Place)) → BonesIn b₀ m bs → n ≤ length bs → (bones : List (Bone Place)) →
+        take_columns (up_from row (n - row)) (drop (16 * row) M) bones ≡ bones) →
+        KeepsColumns n words local b₀ b
+    ended last =
+        record {
+          keeps =
+              λ m t h o r el k.
+              let L : List ℕ = t.lists.local in
+              let d = g.rest m t.bones h r in
+              let is : take_columns (up_from 0 n) M t.bones ≡ d.bones = d.left ∙ last m t.bones h r d.bones in
+              let same : M ≡ take words L =
+              front ∙ ap (take words) el ∙ take-append-le words L (replicate (length local - length L) 0) k
+              in
+              let ms : take n t.members ≡ up_from 0 n = ap (take n) o ∙ take-up_from 0 n (length t.bones) r in
+              rw (ms, ← same, is) d.rows;
+        }
 
-  pub keeping_no_matrix : words ≤ 16 * row → KeepsColumns n words local b₀ b
-  keeping_no_matrix l =
-      ended λ m bs h r k bones.
-      let M : List ℕ = take words local in
-      let short : length M ≤ 16 * row = simp length-take (omega arith) in
-      rw (drop_of_length-le M short) (no_matrix (up_from row (n - row)) bones)
+    pub keeping_no_matrix : length M ≤ 16 * row → KeepsColumns n words local b₀ b
+    keeping_no_matrix l =
+        ended λ m bs h r bones. rw (drop_of_length-le M l) (no_matrix (up_from row (n - row)) bones)
 
-  pub keeping_end : min n (length b₀ / bone_width) ≤ row → KeepsColumns n words local b₀ b
-  keeping_end l =
-      ended λ m bs h r k bones.
-      let fits = laid-fits (words_of bs) b₀ h.rows in
-      let none : n - row ≡ 0 = ⊎_elim (λ s. omega arith) (λ s. omega (arith, length-words_of bs)) (le-or-lt n row) in
-      rw (up_from-none row (n - row) none) (no_bone (drop (16 * row) (take words local)) bones)
+    pub keeping_end : min n (length b₀ / bone_width) ≤ row → KeepsColumns n words local b₀ b
+    keeping_end l =
+        ended λ m bs h r bones.
+        let fits = laid-fits (words_of bs) b₀ h.rows in
+        let none : n - row ≡ 0 = ⊎_elim (λ s. omega arith) (λ s. omega (arith, length-words_of bs)) (le-or-lt n row) in
+        rw (up_from-none row (n - row) none) (no_bone (drop (16 * row) M) bones)

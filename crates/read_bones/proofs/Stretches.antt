@@ -8,10 +8,11 @@ use Rattle.format.specs.Bone.{Bone}
 use Rattle.format.specs.Chains.{up_from}
 use Rattle.format.specs.Tables.{Pooled, Tables, Room, add_member}
 use Rattle.format.specs.Read.{read_bone, read_bones}
-use Rattle.read_bones.specs.Lent.{LentBones, leaving, Unread}
+use Rattle.read_bones.specs.Lent.{SameTables, LentBones, leaving, Unread}
 use Rattle.read_bones.specs.Bones.{row_step, RowTable, RowLeft, BoneLeft, Before, ReadsBone}
 use Rattle.read_bones.specs.Blocks.{ReadsBones}
 use Rattle.read_bones.specs.declared.bone.Row.{Row}
+use Rattle.read_bones.specs.declared.Tables as Lent
 use Rattle.std.specs.Prelude.{Result, Ok, Err}
 
 -- ---- rows in order
@@ -57,6 +58,18 @@ module _ (sec : Section) (room : Room) (n at : ℕ) (t : Tables) where
   none_left : n ≡ 0 → read_bones sec room n at t ≡ done t
   unfolding read_bones
   none_left e = rw e refl
+
+-- ---- the tables lent
+
+pub same_none : (v : Lent.Tables) → SameTables v v
+same_none v = record { bones = record { name = refl; size = refl }; pool = record { name = refl; size = refl } }
+
+pub same-more : {v w x : Lent.Tables} → SameTables v w → SameTables w x → SameTables v x
+same-more s t =
+    record {
+      bones = record { name = t.bones.name ∙ s.bones.name; size = t.bones.size ∙ s.bones.size };
+      pool = record { name = t.pool.name ∙ s.pool.name; size = t.pool.size ∙ s.pool.size };
+    }
 
 -- ---- the loop
 

@@ -8,6 +8,13 @@ use Rattle.format.specs.Chains.{up_from}
 use Rattle.format.specs.Tables.{kind_number, bone, string, Pooled, Tables, tables, Room, find}
 use Rattle.format.specs.Rows.{laid, bone_width, bone_words}
 use Rattle.blocks.specs.Hashed.{Represents}
+use Rattle.tables.specs.Working.{SameTable}
+use Rattle.read_bones.specs.declared.Tables as declared
+
+-- the same tables are lent, each as long as it was
+pub record SameTables (v w : declared.Tables) : Type 0 where
+  pub bones : SameTable v.bones w.bones
+  pub pool : SameTable v.pool w.pool
 
 -- the table b of m rows holds the bones
 pub record BonesIn (b : List ℕ) (m : ℕ) (bones : List (Bone Place)) : Type 0 where

@@ -1,12 +1,16 @@
 // One bone of a section with its name (docs/FORMAT.md, "Records"; `Bone::read`), stored as a row of the bones table and pooled.
 ghost use Rattle.std.specs.Prelude.{◌≡◌, ◌+◌, ◌≤◌};
 ghost use Rattle.format.specs.Field.{field_at};
+ghost use Rattle.format.specs.Tables.{bone};
 ghost use Rattle.blocks.specs.Places.{section_of};
 ghost use Rattle.blocks.specs.Hashed.{PlacedAt};
+ghost use Rattle.blocks.specs.Pool.{pool_row, Stores};
 ghost use Rattle.rows.specs.Value.{meant_bone};
 ghost use Rattle.format.specs.Words.{meant_words3, meant_words4};
+ghost use Rattle.read_bones.specs.Lent.{SameTables};
 ghost use Rattle.read_bones.specs.Bones.{words_at3, words_at4, bone_fields, ReadsName, NewName, BoneFrom, NewBone, ReadsBone};
 
+use crate::Tables;
 use blocks::kinds::Kind;
 use blocks::places::Section;
 use blocks::pool;
@@ -109,26 +113,33 @@ fn bone_in(b: &[u8], name: Place) -> Bone
 
 // ---- bones
 
+// Pools a bone as the row that it was given: 1 where the pool has no row for it.
+fn pool_bone(pool: &mut [u64], va: u64, row: usize) -> Result<(), Refusal>
+    ensures { Stores (pool_row va bone row 1) result pool.old pool.new }
+{
+    let spot = pool::place(pool, va);
+    let stored = Stored {
+        first: row as u64,
+        count: 1,
+    };
+    pool::put_at(pool, spot, va, Kind::Bone, stored)
+}
+
 // The bone that 70 bytes at an address hold: what its name refuses, then 1 where no row is left for it in the table or the pool.
 fn bone_from(
     section: Section,
     b: &[u8],
     va: u64,
-    bones: &mut [u32],
+    tables: &mut Tables,
     used: usize,
-    pool: &mut [u64],
 ) -> Result<Row, Refusal>
-    ensures { BoneFrom (section_of section.entry)
-        b.now va used result bones.old bones.new pool.old pool.new }
+    ensures tables { BoneFrom (section_of section.entry) b.now va used result
+        tables.old.bones.now tables.new.bones.now tables.old.pool.now tables.new.pool.now }
+    ensures same { SameTables tables.old tables.new }
 {
-    let name = read_name(section, fields::read::<u64>(b, 56), pool)?;
-    rows::put_bone(bones, used, bone_in(b, name))?;
-    let spot = pool::place(pool, va);
-    let stored = Stored {
-        first: used as u64,
-        count: 1,
-    };
-    pool::put_at(pool, spot, va, Kind::Bone, stored)?;
+    let name = read_name(section, fields::read::<u64>(b, 56), tables.pool)?;
+    rows::put_bone(tables.bones, used, bone_in(b, name))?;
+    pool_bone(tables.pool, va, used)?;
     Ok(Row {
         row: used as u64,
         used: used + 1,
@@ -136,18 +147,13 @@ fn bone_from(
 }
 
 // The bone at an address where nothing was read before: its 70 bytes must stand (10, 11).
-fn new_bone(
-    section: Section,
-    va: u64,
-    bones: &mut [u32],
-    used: usize,
-    pool: &mut [u64],
-) -> Result<Row, Refusal>
-    ensures { NewBone (section_of section.entry) va used result
-        bones.old bones.new pool.old pool.new }
+fn new_bone(section: Section, va: u64, tables: &mut Tables, used: usize) -> Result<Row, Refusal>
+    ensures tables { NewBone (section_of section.entry) va used result
+        tables.old.bones.now tables.new.bones.now tables.old.pool.now tables.new.pool.now }
+    ensures same { SameTables tables.old tables.new }
 {
     let b = section.slice(va, format::BONE_READ)?;
-    bone_from(section, b, va, bones, used, pool)
+    bone_from(section, b, va, tables, used)
 }
 
 // The row of the bone at an address, stored in the row `used` if it is yet to be read: 12 where another kind was read there, then
@@ -155,15 +161,15 @@ fn new_bone(
 pub fn read_bone(
     section: Section,
     va: u64,
-    bones: &mut [u32],
+    tables: &mut Tables,
     used: usize,
-    pool: &mut [u64],
 ) -> Result<Row, Refusal>
     ensures tables { ReadsBone (section_of section.entry) va used result
-        bones.old bones.new pool.old pool.new }
+        tables.old.bones.now tables.new.bones.now tables.old.pool.now tables.new.pool.now }
+    ensures same { SameTables tables.old tables.new }
 {
-    match pool::cached_as(pool, Kind::Bone, va)? {
-        None => new_bone(section, va, bones, used, pool),
+    match tables.pooled(Kind::Bone, va)? {
+        None => new_bone(section, va, tables, used),
         Some(stored) => Ok(Row {
             row: stored.first,
             used,

@@ -4,7 +4,10 @@
 #![tactic(auto)]
 
 ghost use Rattle.std.specs.Prelude.{◌≡◌, ◌≤◌};
+ghost use Rattle.blocks.specs.Kinds.{meant_kind};
 ghost use Rattle.blocks.specs.Places.{section_of};
+ghost use Rattle.blocks.specs.Pool.{FindsAs};
+ghost use Rattle.read_bones.specs.Lent.{SameTables};
 ghost use Rattle.read_bones.specs.Blocks.{ReadsBones, NewBlock, ReadsBlock};
 
 use blocks::kinds::Kind;
@@ -21,11 +24,28 @@ const HEADER_SIZE: u64 = format::BLOCK_HEADER_SIZE as u64;
 
 const BONE_SIZE: u64 = format::BONE_SIZE as u64;
 
-// A bones block that was read: its first member and how many there are, and how many rows of bones are used now.
-#[derive(Clone, Copy)]
+// A bones block that was read: its first member and how many there are, and how many rows of bones are used now. (The list of `read_lists` has the
+// same fields; neither crate rests on the other.)
+#[derive(Clone, Copy, Debug, PartialEq, Eq)]
 pub struct Block {
     pub stored: Stored,
     pub used: usize,
+}
+
+// The lent tables that bones are read into.
+#[derive(Drop)]
+pub struct Tables<'a> {
+    pub bones: &'a mut [u32],
+    pub pool: &'a mut [u64],
+}
+
+impl Tables<'_> {
+    // What the pool has at an address as a kind; 12 where another kind was read there.
+    fn pooled(&self, kind: Kind, va: u64) -> Result<Option<Stored>, Refusal>
+        ensures answer { FindsAs self.now.pool.now (meant_kind kind) va result }
+    {
+        pool::cached_as(self.pool, kind, va)
+    }
 }
 
 // The n bones from an address on, 80 bytes from one to the next: how many rows of bones are used now. The rows that they were given
@@ -34,19 +54,19 @@ fn read_bones(
     section: Section,
     va: u64,
     n: usize,
-    bones: &mut [u32],
+    tables: &mut Tables,
     used: usize,
-    pool: &mut [u64],
 ) -> Result<usize, Refusal>
-    ensures { ReadsBones (section_of section.entry) va n used result
-        bones.old bones.new pool.old pool.new }
+    ensures tables { ReadsBones (section_of section.entry) va n used result
+        tables.old.bones.now tables.new.bones.now tables.old.pool.now tables.new.pool.now }
+    ensures same { SameTables tables.old tables.new }
 {
     let mut at = va;
     let mut row = used;
-    for i in 0..n {
-        let read = bone::read_bone(section, at, bones, row, pool)?;
+    for _ in 0..n {
+        let read = bone::read_bone(section, at, tables, row)?;
         row = read.used;
-        at = std::num::wrapping_add_u64(at, BONE_SIZE);
+        at = at.wrapping_add(BONE_SIZE);
     }
     Ok(row)
 }
@@ -58,22 +78,22 @@ fn new_block(
     section: Section,
     pointer: u64,
     n: usize,
-    bones: &mut [u32],
+    tables: &mut Tables,
     used: usize,
-    pool: &mut [u64],
 ) -> Result<Block, Refusal>
     requires { 16 ≤ pointer }
-    ensures { NewBlock (section_of section.entry) pointer n used result
-        bones.old bones.new pool.old pool.new }
+    ensures tables { NewBlock (section_of section.entry) pointer n used result
+        tables.old.bones.now tables.new.bones.now tables.old.pool.now tables.new.pool.now }
+    ensures same { SameTables tables.old tables.new }
 {
     let va = pointer - HEADER_SIZE;
     section.rest(va)?;
-    let now = read_bones(section, pointer, n, bones, used, pool)?;
+    let now = read_bones(section, pointer, n, tables, used)?;
     let stored = Stored {
         first: used as u64,
         count: n as u64,
     };
-    pool::put(pool, va, Kind::Block, stored)?;
+    pool::put(tables.pool, va, Kind::Block, stored)?;
     Ok(Block { stored, used: now })
 }
 
@@ -85,12 +105,12 @@ pub fn read_block(
     section: Section,
     pointer: u64,
     n: usize,
-    bones: &mut [u32],
+    tables: &mut Tables,
     used: usize,
-    pool: &mut [u64],
 ) -> Result<Option<Block>, Refusal>
     ensures tables { ReadsBlock (section_of section.entry) pointer n used result
-        bones.old bones.new pool.old pool.new }
+        tables.old.bones.now tables.new.bones.now tables.old.pool.now tables.new.pool.now }
+    ensures same { SameTables tables.old tables.new }
 {
     if pointer == 0 {
         return Ok(None);
@@ -101,9 +121,8 @@ pub fn read_block(
     if pointer == HEADER_SIZE {
         return Ok(None);
     }
-    if let Some(stored) = pool::cached_as(pool, Kind::Block, pointer - HEADER_SIZE)? {
+    if let Some(stored) = tables.pooled(Kind::Block, pointer - HEADER_SIZE)? {
         return Ok(Some(Block { stored, used }));
     }
-    let new = new_block(section, pointer, n, bones, used, pool)?;
-    Ok(Some(new))
+    new_block(section, pointer, n, tables, used).map(Some)
 }

@@ -2,7 +2,7 @@
 use Prim.Native.Nat.{ℕ, zero, suc, ◌*◌, ◌/◌}
 use native.Mathlib.Omega.{arith}
 use mathlib.Core.Path.{◌≡◌, refl, sym, ap, subst, ◌∙◌}
-use Rattle.std.specs.Prelude.{Option, None, Some, Result, Ok, Err}
+use Rattle.std.specs.Prelude.{Option, None, Some, Result, Ok, Err, MatchResult, IsOkAnd}
 use mathlib.Core.List.{List}
 use lib.ListN.{length}
 use Rattle.format.specs.Result.{Res, refused, done, ◌>>=◌}
@@ -148,6 +148,14 @@ module _ (sec : Section) (va n filled used : ℕ) where
               λ {room} {t} h.
               subst (λ (y : Step (Option Rows)). Arrayed room y filled used b e p (named r)) (sym (asked i h)) (g.reads h);
         }
+
+-- a new array, named by the code
+pub named_as :
+    (r : Result Buckets Refusal) (q : Result (Option Buckets) Refusal) {P : Buckets → Option Buckets → Type 0} →
+    ((x : Buckets) (k : Option Buckets) → P x k → k ≡ Some x) → MatchResult r (λ x. IsOkAnd q (P x)) (λ e. q ≡ Err e) → named r ≡ q
+named_as (Ok x) (Ok k) h m = ap Ok (sym (h x k m))
+named_as (Ok x) (Err e) h m = absurd m
+named_as (Err e) q h m = sym m
 
 -- an answer that is told another way
 pub buckets_by :

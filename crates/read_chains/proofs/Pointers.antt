@@ -1,6 +1,7 @@
 -- The ways out of `read_bucket` and `read_pointers`. In the loop, the pointers left come from the tables so far to what all of
 -- them come to. Assumes nothing.
-use Prim.Native.Nat.{ℕ, suc, ◌+◌, ◌*◌, ◌/◌, ◌≤◌, ◌<◌}
+use Prim.Native.Nat.{ℕ, zero, suc, ◌+◌, ◌*◌, ◌/◌, ◌≤◌, ◌<◌}
+use native.Mathlib.Nat.{mul-zero, mul-suc}
 use native.Mathlib.Numerals.{add-one}
 use native.Mathlib.Omega.{arith}
 use mathlib.Core.Path.{◌≡◌, refl, sym, ap, subst, ◌∙◌}
@@ -8,17 +9,19 @@ use mathlib.Core.Bool.{true, false}
 use mathlib.Core.List.{List, [], ◌∷◌, ◌++◌}
 use borrow.Author.Tests.{lt-ltb, le-ltb}
 use lib.Dec.{ltb}
-use lib.ListN.{length, get_or, set, drop, length-append, length-set, drop_of_length-le}
-use lib.Seq.{drop-cons}
+use lib.ListN.{length, get_or, set, take, drop, length-append, length-set, length-take, length-drop, drop_of_length-le}
+use lib.Seq.{drop-cons, drop-drop}
+use Rattle.std.specs.Int.{byte_worth, sum_through}
+use Rattle.std.specs.Simd.{first_chunks}
 use Rattle.format.specs.declared.Refusal.{Refusal}
 use Rattle.format.specs.declared.Refusal.TheVariants.{TableTooShort}
-use Rattle.format.specs.Field.{field_at, words}
+use Rattle.format.specs.Field.{value_of, field, words}
 use Rattle.format.specs.Section.{Section}
 use Rattle.format.specs.Tables.{Tables, Room, add_bucket}
 use Rattle.format.specs.Rows.{laid}
 use Rattle.format.specs.Read.{read_head, read_buckets}
 use Rattle.format.proofs.Fields.{length-words, words_at_lem}
-use Rattle.fields.proofs.Laws.{field_at-stands}
+use Rattle.fields.proofs.Bytes.{load_lem}
 use Rattle.tables.proofs.Laid.{sets-laid}
 use Rattle.read_chains.specs.Lent.{SameTables, HoldsEntries, HoldsChains, Comes}
 use Rattle.read_chains.specs.Entries.{Headed, ReadsHead}
@@ -115,6 +118,24 @@ same-more s t =
 
 -- ---- the loop over the pointers
 
+-- the bytes of each
+chunk-at : (k m : ℕ) (s : List ℕ) (i : ℕ) → i < m → get_or (first_chunks k m s) i [] ≡ take k (drop (k * i) s)
+chunk-at k zero s i l = absurd (omega arith)
+chunk-at k (suc m) s zero l = simp mul-zero
+chunk-at k (suc m) s (suc i) l =
+    let j : k + k * i ≡ k * suc i = simp mul-suc (omega arith) in
+    chunk-at k m (drop k s) i (omega arith) ∙ ap (take k) (drop-drop (k * i) k s ∙ ap (λ (x : ℕ). drop x s) j)
+
+pub pointer_read :
+    (bytes : List ℕ) {cs : List (List ℕ)} {i r : ℕ} → cs ≡ first_chunks 8 (length bytes / 8) bytes → i < length bytes / 8 →
+    r ≡ sum_through (λ j. byte_worth j (get_or (get_or cs i []) j 0)) 7 → r ≡ field 8 bytes (8 * i)
+pointer_read bytes {cs} {i} e l f =
+    let c : get_or cs i [] ≡ take 8 (drop (8 * i) bytes) =
+    ap (λ (x : List (List ℕ)). get_or x i []) e ∙ chunk-at 8 (length bytes / 8) bytes i l
+    in
+    let n : length (take 8 (drop (8 * i) bytes)) ≡ 8 = simp (length-take, length-drop) (omega arith) in
+    load_lem 7 (get_or cs i []) (ap length c ∙ n) f ∙ ap value_of c
+
 abbrev pub pointers_of : List ℕ → List ℕ
 pointers_of bytes = words 8 (length bytes / 8) bytes
 
@@ -163,14 +184,14 @@ module _
         }
 
     module _
-        (l : i < length bytes / 8) {va : ℕ} (f : va ≡ field_at 8 bytes (8 * i)) {r : Result Used Refusal} {b' e' p' : List ℕ}
+        (l : i < length bytes / 8) {va : ℕ} (f : va ≡ field 8 bytes (8 * i)) {r : Result Used Refusal} {b' e' p' : List ℕ}
         (m : ReadsBucket sec va row taken r b b' e e' p p')
       where
         next : drop i (pointers_of bytes) ≡ va ∷ drop (suc i) (pointers_of bytes)
         next =
             let n = length bytes / 8 in
             let at : get_or (pointers_of bytes) i 0 ≡ va =
-            words_at_lem 8 n bytes i l ∙ sym (f ∙ field_at-stands 8 bytes (8 * i) (omega arith)) in
+            words_at_lem 8 n bytes i l ∙ sym f in
             drop-cons (pointers_of bytes) i 0 (omega (arith, length-words 8 n bytes)) ∙
             ap (λ (x : ℕ). x ∷ drop (suc i) (pointers_of bytes)) at
 

@@ -14,28 +14,25 @@ use blocks::kinds::Kind;
 use blocks::places::Section;
 use blocks::pool;
 use blocks::pool::Stored;
-use format::Refusal;
+use format::{POINTER, Refusal};
 
 mod chains; // entries, chains, and the link to a chain's head
 
-// The bytes of a bucket's pointer.
-const POINTER: usize = 8;
-
 // How many rows of buckets and of entries are used.
-#[derive(Clone, Copy)]
+#[derive(Clone, Copy, Debug, PartialEq, Eq)]
 pub struct Used {
     pub buckets: usize,
     pub entries: usize,
 }
 
 // A bucket array that was read: its first row and how many there are, and the rows that are used now.
-#[derive(Clone, Copy)]
+#[derive(Clone, Copy, Debug, PartialEq, Eq)]
 pub struct Buckets {
     pub stored: Stored,
     pub used: Used,
 }
 
-// The lent tables that chains are read into.
+// The lent tables that chains are read into. (Not the tables of a whole reading: of the others each step would have to say that they stay.)
 #[derive(Drop)]
 pub struct Tables<'a> {
     pub buckets: &'a mut [u32],
@@ -73,10 +70,10 @@ fn read_pointers(
         tables.old.entries.now tables.new.entries.now tables.old.pool.now tables.new.pool.now }
     ensures same { SameTables tables.old tables.new }
 {
+    let (pointers, _) = bytes.as_chunks::<POINTER>();
     let mut now = used;
-    for i in 0..bytes.len() / POINTER {
-        let va = fields::read::<u64>(bytes, POINTER * i);
-        now = read_bucket(section, va, tables, now)?;
+    for pointer in pointers {
+        now = read_bucket(section, u64::from_le_bytes(*pointer), tables, now)?;
     }
     Ok(now)
 }
@@ -133,6 +130,5 @@ pub fn read_buckets(
     if let Some(stored) = pooled(tables, va)? {
         return Ok(Some(Buckets { stored, used }));
     }
-    let new = read_new(section, va, count, tables, used)?;
-    Ok(Some(new))
+    read_new(section, va, count, tables, used).map(Some)
 }

@@ -1,12 +1,11 @@
 -- What a caller learns of an answer: what the reading of the list gives, and what stands in the tables then. Assumes nothing.
 use mathlib.Core.Path.{◌≡◌, sym, ap, ◌∙◌}
-use Rattle.std.specs.Prelude.{Option, None, Some, Result, Ok, Err}
+use Rattle.std.specs.Prelude.{Option, None, Some, Result, Ok}
 use mathlib.Core.List.{List}
 use Prim.Native.Nat.{ℕ}
 use native.Mathlib.Omega.{arith}
 use lib.ListN.{length}
 use Rattle.format.specs.Result.{refused, done}
-use Rattle.format.specs.Refusal.{number}
 use Rattle.format.specs.declared.Refusal.{Refusal}
 use Rattle.format.specs.Tables.{ListTable, Rows, Tables, words_in}
 use Rattle.format.specs.Read.{Step}
@@ -31,17 +30,10 @@ gives_by (done (s, u)) e h =
     let q = both_same e in
     record { after = u; is = ap (λ (x : Option Rows). done (x, u)) (sym q.0); size = q.1; holds = h }
 
-refused_by : (l : ListTable) (g : Step (Option Rows)) {c : ℕ} → refused c ≡ list_given l g → g ≡ refused c
-refused_by l (refused d) e = cc
-refused_by l (done (s, u)) e = let z : ◌≡◌ {A = ℕ} 0 1 = cc in absurd (omega arith)
-
 module _
     {l : ListTable} {n : ℕ} {g : Step (Option Rows)} {used : ℕ} {r : Result (Option ours.List) Refusal} {t₀ t p : List ℕ}
     (c : ListComes l n g used r t₀ t p)
   where
-    pub list-refused : {x : Refusal} → r ≡ Err x → g ≡ refused (number x)
-    list-refused e = refused_by l g (sym (ap (meant_listed used) e) ∙ c.answer)
-
     pub list_absent : r ≡ Ok None → Gives l n g None used t₀ t p
     list_absent e = gives_by g (sym (ap (meant_listed used) e) ∙ c.answer) c.tables
 

@@ -3,7 +3,7 @@
 -- `Leading`. Assumes nothing.
 use mathlib.Core.Path.{◌≡◌, refl, sym, ap, ◌∙◌}
 use mathlib.Core.Bool.{Bool, true, false}
-use Rattle.std.specs.Prelude.{Option, None, Some, Result, Ok, Err}
+use Rattle.std.specs.Prelude.{Option, None, Some, Result, Ok, Err, MatchResult, IsOkAnd}
 use mathlib.Core.List.{List, map}
 use Prim.Native.Nat.{ℕ, ◌+◌, ◌-◌, ◌*◌, ◌/◌, ◌≤◌}
 use native.Mathlib.Nat.{mul_assoc}
@@ -63,6 +63,14 @@ rows-within w t e = omega (arith, simp (length-append, length-replicate) at (ap 
 abbrev pub named : Result ours.List Refusal → Result (Option ours.List) Refusal
 named (Ok x) = Ok (Some x)
 named (Err x) = Err x
+
+-- the code names it so
+pub named_as :
+    (r : Result ours.List Refusal) (q : Result (Option ours.List) Refusal) {P : ours.List → Option ours.List → Type 0} →
+    ((x : ours.List) (k : Option ours.List) → P x k → k ≡ Some x) → MatchResult r (λ x. IsOkAnd q (P x)) (λ e. q ≡ Err e) → q ≡ named r
+named_as (Ok x) (Ok k) h m = ap Ok (h x k m)
+named_as (Ok x) (Err e) h m = absurd m
+named_as (Err e) q h m = m
 
 refused_named : (used : ℕ) {c : ℕ} (r : Result ours.List Refusal) → outcome r ≡ refused c → meant_listed used (named r) ≡ refused c
 refused_named used (Ok x) e = let z : ◌≡◌ {A = ℕ} 0 1 = cc in absurd (omega arith)

@@ -31,7 +31,7 @@ pub trait ListKind: Copy {
     fn other(self) -> Self
         ensures { table result ≡ twin (table self) };
 
-    // a list's bytes can be counted
+    // a row has words, but so few that a list's bytes can be counted
     ghost some_words: { 0 < ROW };
 
     ghost few_words: { ROW ≤ 16 };

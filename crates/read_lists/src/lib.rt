@@ -20,7 +20,7 @@ mod storing; // words stored as new rows, from bytes or from the other table
 pub use kinds::{Indices, ListKind, Matrices};
 
 // A list that was read: its first word in its own table and the count of its words, and how many words of the table are used now.
-#[derive(Clone, Copy)]
+#[derive(Clone, Copy, Debug, PartialEq, Eq)]
 pub struct List {
     pub stored: Stored,
     pub used: usize,
@@ -31,6 +31,7 @@ pub struct List {
 // table; at another kind's address the list is read anew and left out of the pool. Refusals: 10, 11, then 1 for the rows, then 1
 // for the pool's row. `own` then holds the rows and zeros behind them, and `pool` the list's row; of a refusal nothing is said of
 // either.
+#[tactic(auto, using(crate::proofs::Reading::reads_absent, crate::proofs::Reading::reads_again))]
 pub fn read_list<K: ListKind>(
     section: Section,
     which: K,
@@ -50,8 +51,8 @@ pub fn read_list<K: ListKind>(
     let table = which.table();
     match pooling::way_of(pool, table, va) {
         Way::Again(stored) => Ok(Some(List { stored, used })),
-        Way::Copy(stored) => Ok(Some(storing::copy_list::<K>(other, stored, own, used)?)),
-        Way::Over => Ok(Some(storing::new_list::<K>(section, va, n, own, used)?)),
+        Way::Copy(stored) => storing::copy_list::<K>(other, stored, own, used).map(Some),
+        Way::Over => storing::new_list::<K>(section, va, n, own, used).map(Some),
         Way::New => {
             let list = storing::new_list::<K>(section, va, n, own, used)?;
             pool::put(pool, va, Kind::List(table), list.stored)?;

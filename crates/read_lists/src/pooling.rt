@@ -6,7 +6,7 @@ use blocks::kinds::{Kind, ListTable};
 use blocks::pool;
 use blocks::pool::Stored;
 
-// How a list comes into its table, by what the pool has at its address.
+// How a list comes into its table, by what the pool has at its address. (Four ways, of which two have a value: no Option.)
 #[derive(Clone, Copy)]
 pub enum Way {
     // a list of its kind, in its own table

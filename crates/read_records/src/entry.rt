@@ -8,7 +8,7 @@ use blocks::places::Section;
 use format::Refusal;
 
 // The fields of an entry: its tag, its position, and the address of the next.
-#[derive(Clone, Copy)]
+#[derive(Clone, Copy, Debug, PartialEq, Eq)]
 pub struct Entry {
     pub tag: u32,
     pub position: u32,

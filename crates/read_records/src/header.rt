@@ -9,7 +9,7 @@ use blocks::places::Section;
 use format::{Refusal, Words4};
 
 // The fields, by their offsets.
-#[derive(Clone, Copy)]
+#[derive(Clone, Copy, Debug, PartialEq, Eq)]
 pub struct Header {
     // 0, as it is stored: it is not examined
     pub kind: u32,

@@ -48,8 +48,8 @@ fn fields_of(read: Result<Option<Joints>, Refusal>) -> [usize; 8] {
 }
 
 pub(crate) fn read_agrees(case: &[u8], root: u64) -> bool {
-    let mut rotation = buffers::dirty32();
-    let mut translation = buffers::dirty32();
+    let mut rotation = buffers::DIRTY32;
+    let mut translation = buffers::DIRTY32;
     let section = Section {
         system: replay_sample::part(case, SYSTEM),
         graphics: replay_sample::part(case, GRAPHICS),
@@ -73,17 +73,10 @@ const TRANSLATION_LIMITS: u16 = 3;
 
 const SECTION: u16 = 4;
 
-fn answered<T: Copy>(written: Result<T, Refusal>, answer: u32) -> bool {
-    match written {
-        Ok(_) => answer == buffers::DONE,
-        Err(refusal) => answer == u32::from(refusal),
-    }
-}
-
 pub(crate) fn write_agrees(case: &[u8], r: usize, t: usize, answer: u32) -> bool {
     let rotation = replay_sample::loaded(replay_sample::part(case, ROTATION_LIMITS));
     let translation = replay_sample::loaded(replay_sample::part(case, TRANSLATION_LIMITS));
-    let mut out = buffers::dirty8();
+    let mut out = buffers::DIRTY8;
     let rotations = Rows {
         table: &rotation,
         count: r,
@@ -95,7 +88,7 @@ pub(crate) fn write_agrees(case: &[u8], r: usize, t: usize, answer: u32) -> bool
     let w = joints::write::write(rotations, translations, &mut out);
     let want = replay_sample::part(case, SECTION);
     buffers::all(
-        answered(w, answer) && w.unwrap_or(want.len()) == want.len(),
+        buffers::counted(w, answer, want.len()),
         replay_sample::same_bytes(&out, want, buffers::DIRT8),
         true,
         true,
@@ -138,11 +131,11 @@ pub(crate) fn row_write_agrees<L: Limit<BYTES, WORDS>, const BYTES: usize, const
     let words = replay_sample::loaded(replay_sample::part(case, WRITTEN_ROW));
     let mut row = [0u32; WORDS];
     let _ = runs::copy(&words, 0, WORDS, &mut row, 0);
-    let mut out = buffers::dirty8();
+    let mut out = buffers::DIRTY8;
     let lent = replay_sample::within(n, &out);
     let written = L::write(&row, &mut out[..lent]);
     buffers::all(
-        answered(written, answer),
+        buffers::answered(written, answer),
         replay_sample::same_bytes(
             &out,
             replay_sample::part(case, BYTES_WRITTEN),

@@ -1,6 +1,6 @@
 // Runs a stored sample of the published Rust's answers against our code, with no Rust at hand (compare/vectors/README.md). The cases
-// come from standard input. Printed are, for each operation, how many runs there were and how many agree; how often each answer was
-// met; and how many runs differ. The first that differs is named where it is met.
+// come from standard input. Printed are, for each operation, how many runs agree and how many differ; how often each answer was met; and
+// how many runs agree and differ in all. The first that differs is named where it is met.
 #![tactic(auto)]
 
 mod buffers; // what is lent

@@ -1,6 +1,5 @@
 // Deriving replayed (docs/FORMAT.md, "Deriving").
 use crate::buffers;
-use format::Refusal;
 
 // the parts
 const BONES: u16 = 2;
@@ -22,21 +21,14 @@ const PENDING: u16 = 9;
 
 // ---- chains
 
-fn tagged_as(r: Result<usize, Refusal>, answer: u32, count: usize) -> bool {
-    match r {
-        Ok(n) => answer == buffers::DONE && n == count,
-        Err(e) => answer == u32::from(e),
-    }
-}
-
 pub(crate) fn tags_agree(case: &[u8], n: usize, answer: u32) -> bool {
     let bones = replay_sample::loaded(replay_sample::part(case, BONES));
-    let mut buckets = buffers::dirty32();
-    let mut entries = buffers::dirty32();
+    let mut buckets = buffers::DIRTY32;
+    let mut entries = buffers::DIRTY32;
     let r = derive_chains::tags::build_bone_tags(&bones, n, &mut buckets, &mut entries);
     let want = replay_sample::part(case, BUCKETS);
     buffers::all(
-        tagged_as(r, answer, want.len() / 4),
+        buffers::counted(r, answer, want.len() / 4),
         replay_sample::same(&buckets, want),
         replay_sample::same(&entries, replay_sample::part(case, ENTRIES)),
         true,
@@ -45,18 +37,11 @@ pub(crate) fn tags_agree(case: &[u8], n: usize, answer: u32) -> bool {
 
 // ---- parents and children
 
-fn indexed_as(r: Result<usize, Refusal>, answer: u32, count: usize) -> bool {
-    match r {
-        Ok(n) => answer == buffers::DONE && n == count,
-        Err(e) => answer == u32::from(e),
-    }
-}
-
 pub(crate) fn indices_agree(case: &[u8], n: usize, answer: u32) -> bool {
     let bones = replay_sample::loaded(replay_sample::part(case, BONES));
-    let mut parents = buffers::dirty16();
-    let mut children = buffers::dirty16();
-    let mut pending = buffers::dirty32();
+    let mut parents = buffers::DIRTY16;
+    let mut children = buffers::DIRTY16;
+    let mut pending = buffers::DIRTY32;
     let r = derive_children::indices::build_indices(
         &bones,
         n,
@@ -66,7 +51,7 @@ pub(crate) fn indices_agree(case: &[u8], n: usize, answer: u32) -> bool {
     );
     let want = replay_sample::part(case, CHILDREN);
     buffers::all(
-        indexed_as(r, answer, want.len() / 2),
+        buffers::counted(r, answer, want.len() / 2),
         replay_sample::same(&parents, replay_sample::part(case, PARENTS)),
         replay_sample::same(&children, want),
         replay_sample::same(&pending, replay_sample::part(case, PENDING)),
@@ -75,20 +60,13 @@ pub(crate) fn indices_agree(case: &[u8], n: usize, answer: u32) -> bool {
 
 // ---- matrices
 
-fn transformed_as(r: Result<(), Refusal>, answer: u32) -> bool {
-    match r {
-        Ok(()) => answer == buffers::DONE,
-        Err(e) => answer == u32::from(e),
-    }
-}
-
 pub(crate) fn matrices_agree(case: &[u8], n: usize, answer: u32) -> bool {
     let bones = replay_sample::loaded(replay_sample::part(case, BONES));
-    let mut inverse = buffers::dirty32();
-    let mut local = buffers::dirty32();
+    let mut inverse = buffers::DIRTY32;
+    let mut local = buffers::DIRTY32;
     let r = derive_matrices::matrices::build_transformations(&bones, n, &mut inverse, &mut local);
     buffers::all(
-        transformed_as(r, answer),
+        buffers::answered(r, answer),
         replay_sample::same(&inverse, replay_sample::part(case, INVERSE)),
         replay_sample::same(&local, replay_sample::part(case, LOCAL)),
         true,

@@ -79,10 +79,10 @@ fn lists_into(
     entries: &mut [u32],
     pool: &mut [u64],
 ) -> bool {
-    let mut inverse_table = buffers::dirty32();
-    let mut local_table = buffers::dirty32();
-    let mut parents_table = buffers::dirty16();
-    let mut children_table = buffers::dirty16();
+    let mut inverse_table = buffers::DIRTY32;
+    let mut local_table = buffers::DIRTY32;
+    let mut parents_table = buffers::DIRTY16;
+    let mut children_table = buffers::DIRTY16;
     let i = replay_sample::run::lent(case, run, 3, &inverse_table);
     let l = replay_sample::run::lent(case, run, 4, &local_table);
     let p = replay_sample::run::lent(case, run, 5, &parents_table);
@@ -112,10 +112,10 @@ fn lists_into(
 
 // Lends the bones, the chains and the pool likewise, and compares them behind the rest.
 fn rows_into(case: &[u8], root: u64, run: Run, want: &[u8], answer: u32) -> bool {
-    let mut bones_table = buffers::dirty32();
-    let mut buckets_table = buffers::dirty32();
-    let mut entries_table = buffers::dirty32();
-    let mut pool_table = buffers::dirty64();
+    let mut bones_table = buffers::DIRTY32;
+    let mut buckets_table = buffers::DIRTY32;
+    let mut entries_table = buffers::DIRTY32;
+    let mut pool_table = buffers::DIRTY64;
     let n = replay_sample::run::lent(case, run, 0, &bones_table);
     let b = replay_sample::run::lent(case, run, 1, &buckets_table);
     let e = replay_sample::run::lent(case, run, 2, &entries_table);

@@ -3,29 +3,45 @@ use crate::operation::{OPERATIONS, Operation, UnknownOperation};
 use replay_sample::count;
 use std::io;
 
+// How many runs agree, and how many differ.
+#[derive(Clone, Copy, Debug, PartialEq, Eq)]
+struct Count {
+    agree: u32,
+    differ: u32,
+}
+
+impl Count {
+    const NONE: Count = Count {
+        agree: 0,
+        differ: 0,
+    };
+
+    fn note(&mut self, agrees: bool) {
+        if agrees {
+            self.agree = self.agree.saturating_add(1);
+        } else {
+            self.differ = self.differ.saturating_add(1);
+        }
+    }
+}
+
 #[derive(Drop)]
 pub(crate) struct Tally {
-    // of each operation, how many runs agree, and how many differ
-    agree: [u32; 15],
-    differ: [u32; 15],
+    // of each operation
+    operations: [Count; 15],
 
-    // how many agree in all, and how many differ
-    all: [u32; 2],
+    // in all
+    all: Count,
 
     // how often each answer was met
     met: [u32; 101],
 }
 
-const AGREE: usize = 0;
-
-const DIFFER: usize = 1;
-
 impl Tally {
     pub(crate) fn new() -> Tally {
         Tally {
-            agree: [0; 15],
-            differ: [0; 15],
-            all: [0; 2],
+            operations: [Count::NONE; 15],
+            all: Count::NONE,
             met: [0; 101],
         }
     }
@@ -40,31 +56,25 @@ impl Tally {
         answer: u32,
         agrees: bool,
     ) -> io::Result<()> {
-        if agrees {
-            if let Ok(operation) = operation {
-                count(&mut self.agree, operation as usize);
-            }
-            count(&mut self.all, AGREE);
-            count(&mut self.met, answer as usize);
-            return Ok(());
-        }
-        if self.all[DIFFER] == 0 {
+        if !agrees && self.all.differ == 0 {
             if let Ok(operation) = operation {
                 print!(rt; "{operation:<18}")?;
             }
             println!(rt; "differs first: case {number} tables {run}")?;
         }
         if let Ok(operation) = operation {
-            count(&mut self.differ, operation as usize);
+            self.operations[operation as usize].note(agrees);
         }
-        count(&mut self.all, DIFFER);
+        self.all.note(agrees);
+        if agrees {
+            count(&mut self.met, answer as usize);
+        }
         Ok(())
     }
 
     // Prints a line for each operation and each answer that was met, then how many runs agree and how many differ.
     pub(crate) fn print(&self, rt: &impl Print) -> io::Result<()> {
-        for (i, operation) in OPERATIONS.iter().enumerate() {
-            let (agree, differ) = (self.agree[i], self.differ[i]);
+        for (operation, Count { agree, differ }) in OPERATIONS.iter().zip(&self.operations) {
             println!(rt; "{operation:<18}agree {agree} differ {differ}")?;
         }
         for (answer, &met) in self.met.iter().enumerate() {
@@ -72,7 +82,7 @@ impl Tally {
                 println!(rt; "answer {answer} met {met}")?;
             }
         }
-        let [agree, differ] = self.all;
+        let Count { agree, differ } = self.all;
         println!(rt; "in all agree {agree} differ {differ}")
     }
 }

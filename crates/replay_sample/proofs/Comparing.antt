@@ -1,13 +1,14 @@
--- Laws of a loop that compares a table with numbers, one of them behind all others, place by place. Assumes nothing.
-use Prim.Native.Nat.{ℕ, ◌+◌, ◌≤◌, ◌<◌}
+-- A table compared with numbers, one of them behind all others, place by place. Assumes nothing.
+use Prim.Native.Nat.{ℕ, suc, ◌+◌, ◌≤◌, ◌<◌}
+use native.Mathlib.Nat.{add-zero}
 use native.Mathlib.Omega.{arith}
-use mathlib.Core.Path.{◌≡◌, sym, ap, ◌∙◌}
-use mathlib.Core.Bool.{Bool, false, true, ◌&&◌}
-use mathlib.Core.List.{List, map}
-use Rattle.std.proofs.lemmas.List.{get_or_default}
-use lib.ListN.{length, get_or, drop, length-map, get_or-map}
+use mathlib.Core.Path.{◌≡◌, refl, sym, ap, ◌∙◌}
+use mathlib.Core.Bool.{Bool, false}
+use mathlib.Core.List.{List, [], ◌∷◌, map}
+use lib.ListN.{length, get_or, length-map, get_or-map}
+use Rattle.std.specs.List.{list_all, enumerate_from}
 use Rattle.format.specs.Check.{same_list}
-use Rattle.check_lists.proofs.Comparing.{same_lengths, same_turn, same_end}
+use Rattle.check_lists.proofs.Comparing.{same_lengths}
 use Rattle.replay_sample.specs.Parts.{padded_to}
 use Rattle.replay_sample.proofs.Numbers.{get_or-padded, length-padded, longer-padded}
 
@@ -19,6 +20,22 @@ module _ {A : Type 0} (f : A → A → Bool) (value : ℕ → A) (values : List 
   get_or-values : (l : List ℕ) (i d : ℕ) → get_or (values l) i (value d) ≡ value (get_or l i d)
   get_or-values l i d = ap (λ (m : List A). get_or m i (value d)) (sym (each l)) ∙ get_or-map value l i d
 
+  -- m is wanted of l, which stands from place i on
+  numbered :
+      (w : List ℕ) (d : ℕ) (l m : List A) (i : ℕ) → length m ≡ length l →
+      ((k : ℕ) → get_or m k (value d) ≡ value (get_or w (i + k) d)) →
+      list_all (λ p. f p.1 (value (get_or w p.0 d))) (enumerate_from i l) ≡ same_list f l m
+  unfolding same_list
+  numbered w d [] [] i h k = refl
+  numbered w d [] (y ∷ m) i h k = absurd (omega arith)
+  numbered w d (x ∷ l) [] i h k = absurd (omega arith)
+  numbered w d (x ∷ l) (y ∷ m) i h k =
+      let here : y ≡ value (get_or w i d) = k 0 ∙ ap (λ (n : ℕ). value (get_or w n d)) (add-zero i) in
+      let behind : (j : ℕ) → get_or m j (value d) ≡ value (get_or w (i + 1 + j) d) =
+      λ j. k (suc j) ∙ ap (λ (n : ℕ). value (get_or w n d)) (omega arith)
+      in
+      rw (here, numbered w d l m (i + 1) (omega arith) behind) refl
+
   -- a table t, and the numbers w with d behind them
   module _ (t : List A) (w : List ℕ) (d : ℕ) where
     abbrev wanted : List A
@@ -27,17 +44,9 @@ module _ {A : Type 0} (f : A → A → Bool) (value : ℕ → A) (values : List 
     pub same_longer : length t < length w → false ≡ same_list f t wanted
     same_longer l = same_lengths f t wanted (λ e. longer-padded w (length t) d l (e ∙ length-values (padded_to w d (length t))))
 
-    module _ (room : length w ≤ length t) where
-      size : length wanted ≡ length t
-      size = length-values (padded_to w d (length t)) ∙ length-padded w (length t) d room
-
-      -- x stands at place i, where v is wanted
-      pub same_place :
-          (i : ℕ) → i < length t → (e : A) {x v : A} → x ≡ get_or t i e → v ≡ value (get_or w i d) → {r : Bool} → r ≡ f x v →
-          same_list f (drop i t) (drop i wanted) ≡ (r && same_list f (drop (i + 1) t) (drop (i + 1) wanted))
-      same_place i l e ex ev er =
-          same_turn f t wanted (value d) i l (omega (arith, size)) (ex ∙ get_or_default t i e (value d) l)
-          (ev ∙ sym (get_or-values (padded_to w d (length t)) i d ∙ ap value (get_or-padded w _ i d))) er
-
-      pub same_all : (i : ℕ) → length t ≤ i → true ≡ same_list f (drop i t) (drop i wanted)
-      same_all i l = same_end f t wanted i l (omega (arith, size))
+    -- each at its place against what is wanted there
+    pub same_places :
+        length w ≤ length t → list_all (λ p. f p.1 (value (get_or w p.0 d))) (enumerate_from 0 t) ≡ same_list f t wanted
+    same_places room =
+        numbered w d t wanted 0 (length-values (padded_to w d (length t)) ∙ length-padded w (length t) d room)
+        (λ k. get_or-values (padded_to w d (length t)) k d ∙ ap value (get_or-padded w _ k d ∙ ap (λ (n : ℕ). get_or w n d) (omega arith)))

@@ -45,30 +45,22 @@ pub fn number<T: Pod>(part: &[u8], place: usize) -> T
 pub fn same<T: Pod + PartialEq>(table: &[T], part: &[u8]) -> bool
     ensures answer { result ≡ same_list T.eq table.now (T.values (laid (numbers T.SIZE part.now) (length table.now))) }
 {
-    if table.len() < part.len() / T::SIZE {
-        return false;
-    }
-    for (place, have) in table.iter().enumerate() {
-        if *have != number(part, place) {
-            return false;
-        }
-    }
-    true
+    part.len() / T::SIZE <= table.len()
+        && table
+            .iter()
+            .enumerate()
+            .all(|(place, have)| *have == number(part, place))
 }
 
 // Whether a buffer begins with the bytes of a part and holds `rest` behind them.
 pub fn same_bytes(buffer: &[u8], part: &[u8], rest: u8) -> bool
     ensures answer { result ≡ same_words buffer.now (padded_to part.now rest (length buffer.now)) }
 {
-    if buffer.len() < part.len() {
-        return false;
-    }
-    for (place, have) in buffer.iter().enumerate() {
-        if *have != part.get(place).copied().unwrap_or(rest) {
-            return false;
-        }
-    }
-    true
+    part.len() <= buffer.len()
+        && buffer
+            .iter()
+            .enumerate()
+            .all(|(place, have)| have == part.get(place).unwrap_or(&rest))
 }
 
 // ---- tables to lend
@@ -84,7 +76,8 @@ pub fn loaded(part: &[u8]) -> [u32; 672]
     table
 }
 
-// At most n, and at most as many as the table has, so that its front of so many can be lent.
+// At most n, and at most as many as the table has, so that its front of so many can be lent. (A length: a slice of which a part is
+// handed back has no exit.)
 pub fn within<T>(n: usize, table: &[T]) -> usize
     ensures answer { Front (min n (length table.now)) table.now result }
 {

@@ -1,28 +1,16 @@
--- A status and a count say what the answer was. Assumes nothing.
+-- What is told of joints that were read says what the answer was. Assumes nothing.
 use Prim.Native.Nat.{ℕ}
-use mathlib.Core.Path.{◌≡◌, refl, ap, ◌∙◌}
+use mathlib.Core.Path.{◌≡◌, refl, ◌∙◌}
 use Rattle.std.specs.Prelude.{Option, None, Some}
 use mathlib.Core.List.{List, [], ◌∷◌, map}
 use lib.ListN.{length-map}
-use Rattle.format.specs.Result.{Res, refused, done, status}
+use Rattle.format.specs.Result.{done}
 use Rattle.format.specs.Joints.{rotation_row, rotation_width, translation_row, translation_width, limit_rows}
 use Rattle.joints.specs.Reading.{limits_in, joints_in}
 use Rattle.joints.proofs.Chunks.{length-limit_rows}
 use Rattle.joints.specs.declared.read.Joints as declared
-use Rattle.rig_answers.specs.Answer.{counted, given, number_if, present}
+use Rattle.rig_answers.specs.Answer.{given, number_if, present}
 use Rattle.rig.specs.Answer.{limit_count, joints_fields}
-
-pub status-done : {A : Type 0} {x : Res A} {a : A} → done a ≡ x → 0 ≡ status x
-status-done e = ap status e
-
-pub status-refused : {A : Type 0} {x : Res A} {n : ℕ} → refused n ≡ x → n ≡ status x
-status-refused e = ap status e
-
-pub counted-done : {x : Res ℕ} {n : ℕ} → done n ≡ x → n ≡ counted x
-counted-done e = ap counted e
-
-pub counted-refused : {x : Res ℕ} {n : ℕ} → refused n ≡ x → 0 ≡ counted x
-counted-refused e = ap counted e
 
 -- whether a list stands, and how many limits it has, by the number of its rows
 module _ {A : Type 0} (row : List ℕ → A) (k : ℕ) (t : List ℕ) where

@@ -40,16 +40,9 @@ pub extern "C" fn rig_build_bone_tags(
         ≡ leaves (tags_result n (length bones.now) (length buckets.old) (length entries.old))
         (flat_map entry_words (entry_rows (tags (bones_of n bones.now)))) (length entries.old) }
 {
-    match derive_chains::tags::build_bone_tags(bones, n, buckets, entries) {
-        Ok(c) => {
-            *count = c;
-            0
-        }
-        Err(r) => {
-            *count = 0;
-            u32::from(r)
-        }
-    }
+    let chains = derive_chains::tags::build_bone_tags(bones, n, buckets, entries);
+    *count = rig_answers::written_count(chains);
+    rig_answers::written_status(chains)
 }
 
 // The parents and the child list of n bones. `count` is the number of child entries, 0 after a refusal.
@@ -76,16 +69,9 @@ pub extern "C" fn rig_build_indices(
         (length pending.old)) (children_of n bones.now) (length children.old) }
     ensures pending { pending.new ≡ cleared (length pending.old) }
 {
-    match derive_children::indices::build_indices(bones, n, parents, children, pending) {
-        Ok(c) => {
-            *count = c;
-            0
-        }
-        Err(r) => {
-            *count = 0;
-            u32::from(r)
-        }
-    }
+    let lists = derive_children::indices::build_indices(bones, n, parents, children, pending);
+    *count = rig_answers::written_count(lists);
+    rig_answers::written_status(lists)
 }
 
 // The inverse and the local matrices of n bones.
@@ -103,8 +89,6 @@ pub extern "C" fn rig_build_transformations(
         (bones_of n bones.now)
         inverse.old inverse.new local.old local.new }
 {
-    match derive_matrices::matrices::build_transformations(bones, n, inverse, local) {
-        Ok(()) => 0,
-        Err(r) => u32::from(r),
-    }
+    let matrices = derive_matrices::matrices::build_transformations(bones, n, inverse, local);
+    rig_answers::written_status(matrices)
 }

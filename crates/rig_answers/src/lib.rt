@@ -41,7 +41,7 @@ pub fn given(r: Result<Option<usize>, Refusal>) -> usize
     }
 }
 
-// The same of the position that a lookup gives. Its own function: a `u32` is not `Into<usize>`.
+// The same of the position that a lookup gives. (Its own function, for the type: a position is a stored word, and a count is not.)
 pub fn looked_position(r: Result<Option<u32>, Refusal>) -> usize
     ensures { result ≡ given (outcome r) }
 {

@@ -7,9 +7,9 @@ use mathlib.Core.List.{List, map}
 use lib.ListN.{length, get_or, take, drop, length-map}
 use lib.Seq.{drop-drop, get_or-take}
 use lib.Dec.{leb}
-use borrow.Author.Tests.{le-leb, lt-leb}
+use borrow.Author.Tests.{le-leb, lt-leb, leb-true}
 use Rattle.std.specs.Simd.{first_chunks}
-use Rattle.format.specs.Result.{Res, refused, done, need, ◌>>=◌}
+use Rattle.format.specs.Result.{refused, done, need, ◌>>=◌}
 use Rattle.format.specs.Section.{Place}
 use Rattle.format.specs.Bone.{Bone}
 use Rattle.format.specs.Rows.{bone_width, bone_of, bones_of}
@@ -75,30 +75,35 @@ rows_cut (suc n) zero t h = absurd (omega arith)
 rows_cut (suc n) (suc m) t h = rw (bone_words-first t, rows_cut n m (drop 21 t) (omega arith))
 
 module _ (n : ℕ) (t : List ℕ) where
-  pub rows_short : length t / bone_width < n → refused 1 ≡ bones_got n t
+  pub rows_many : 65535 < n → refused 2 ≡ bones_got n t
   unfolding bones_got
-  rows_short h = rw (lt-leb (bone_width * n) (length t) (omega arith))
+  rows_many h = rw (lt-leb n 65535 h)
 
-  pub rows_first : n ≤ length t / bone_width → done (map bone_of (take n (first_chunks 21 (length t / 21) t))) ≡ bones_got n t
+  pub rows_short : n ≤ 65535 → length t / bone_width < n → refused 1 ≡ bones_got n t
   unfolding bones_got
-  rows_first h = rw (le-leb (bone_width * n) (length t) (omega arith), rows_cut n (length t / 21) t h)
+  rows_short h k = rw (le-leb n 65535 h, lt-leb (bone_width * n) (length t) (omega arith))
+
+  pub rows_first :
+      n ≤ 65535 → n ≤ length t / bone_width → done (map bone_of (take n (first_chunks 21 (length t / 21) t))) ≡ bones_got n t
+  unfolding bones_got
+  rows_first h k =
+      rw (le-leb n 65535 h, le-leb (bone_width * n) (length t) (omega arith), rows_cut n (length t / 21) t k)
 
 -- rows with the bones of the first n are n
 pub length-rows : (n : ℕ) (t : List ℕ) (rows : List (List ℕ)) → map bone_of rows ≡ bones_of n t → length rows ≡ n
 length-rows n t rows e = sym (length-map rows bone_of) ∙ ap length e ∙ length-bones_of n t
 
 -- what the rows that a table gives tell
-module _ (n : ℕ) (t : List ℕ) where
-  got_by :
-      (q : Bool) {g : Res (List (Bone Place))} → g ≡ (need 1 q >>= λ u. done (bones_of n t))
-      → ((c : ℕ) → refused c ≡ g → (q ≡ false) × (c ≡ 1)) × ((bs : List (Bone Place)) → done bs ≡ g → (q ≡ true) × (bs ≡ bones_of n t))
-  got_by true e = (λ c f. let z : ◌≡◌ {A = ℕ} 0 1 = cc in absurd (omega arith), λ bs f. (refl, cc))
-  got_by false e = (λ c f. (refl, cc), λ bs f. let z : ◌≡◌ {A = ℕ} 0 1 = cc in absurd (omega arith))
-
-  pub got_none : (c : ℕ) → refused c ≡ bones_got n t → (leb (bone_width * n) (length t) ≡ false) × (c ≡ 1)
-  unfolding bones_got
-  got_none c e = (got_by (leb (bone_width * n) (length t)) {g = bones_got n t} refl).0 c e
-
-  pub got_bones : {bs : List (Bone Place)} → done bs ≡ bones_got n t → (leb (bone_width * n) (length t) ≡ true) × (bs ≡ bones_of n t)
-  unfolding bones_got
-  got_bones {bs} e = (got_by (leb (bone_width * n) (length t)) {g = bones_got n t} refl).1 bs e
+pub got_bones :
+    (n : ℕ) (t : List ℕ) {bs : List (Bone Place)} → done bs ≡ bones_got n t
+    → (n ≤ 65535) × (leb (bone_width * n) (length t) ≡ true) × (bs ≡ bones_of n t)
+unfolding bones_got
+got_bones n t {bs} e =
+    let g = by (leb n 65535) (leb (bone_width * n) (length t)) e in
+    (leb-true n 65535 g.0, g.1, g.2)
+  where
+    by :
+        (x y : Bool) → done bs ≡ (need 2 x >>= λ u. need 1 y >>= λ v. done (bones_of n t)) → (x ≡ true) × (y ≡ true) × (bs ≡ bones_of n t)
+    by true true f = (refl, refl, cc)
+    by true false f = let z : ◌≡◌ {A = ℕ} 0 1 = cc in absurd (omega arith)
+    by false y f = let z : ◌≡◌ {A = ℕ} 0 1 = cc in absurd (omega arith)

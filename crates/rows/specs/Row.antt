@@ -23,9 +23,10 @@ words3_from w i = words3 (get_or w i 0) (get_or w (i + 1) 0) (get_or w (i + 2) 0
 abbrev pub words4_from : List ℕ → ℕ → Words4
 words4_from w i = words4 (get_or w i 0) (get_or w (i + 1) 0) (get_or w (i + 2) 0) (get_or w (i + 3) 0)
 
--- the bones in the first n rows; 1 where the table has fewer
+-- the bones in the first n rows; 2 above 65,535 of them, then 1 where the table has fewer
 unfoldable pub bones_got : ℕ → List ℕ → Res (List (Bone Place))
 bones_got n t = do
+  u2 ← need 2 (leb n 65535)
   u1 ← need 1 (leb (bone_width * n) (length t))
   done (bones_of n t)
 

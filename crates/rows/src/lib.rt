@@ -1,6 +1,6 @@
 // A bone's row in a lent table of 32-bit words (docs/FORMAT.md, "Records"; the words of a row stand in `format`, Rows.antt).
 // Every table and position has an answer: words that the table lacks read as 0. A table and a row's number name a bone as they do in the
-// definitions (`row_at t p`): `parent_at(bones, p)` is as plain as a method of a view of that row.
+// definitions (`row_at t p`); a row by itself is lent as a table whose first row it is.
 #![tactic(auto, unfolding(format::specs::Rows::bone_of, format::specs::Rows::place_of, crate::specs::Value::our_bone))]
 
 ghost use Rattle.std.specs.Prelude.{◌≡◌, ◌+◌, ◌*◌, ◌/◌, ◌%◌, ◌^◌, ◌≤◌, length, get_or, map};
@@ -13,11 +13,11 @@ ghost use Rattle.rows.specs.Row.{row_words, row_at, words3_from, words4_from, ha
 ghost use Rattle.rows.specs.Value.{our_place, our_bone, meant_bone, vec3_of, vec4_of};
 ghost use Rattle.format.specs.Words.{our_words3, our_words4};
 
-use format::{BONE_WORDS, Place, Refusal, Words3, Words4};
+use format::{BONE_WORDS, MOST, Place, Refusal, Words3, Words4};
 use math::{Vec3, Vec4, float_of};
 
 // A bone as its row holds it. Signed 16-bit numbers are their patterns, negative from 32768 on.
-#[derive(Clone, Copy)]
+#[derive(Clone, Copy, Debug, PartialEq, Eq)]
 pub struct Bone {
     // a quaternion x, y, z, w
     pub rotation: Words4,
@@ -83,7 +83,7 @@ fn place_of(address: u64, size: u64) -> Place
     }
 }
 
-// ---- reading a row
+// ---- reading a row (one function for each kind of answer: the words, the floats and the structs have named fields)
 
 // Word i of row p.
 pub fn word_at(t: &[u32], p: usize, i: usize) -> u32
@@ -231,11 +231,14 @@ pub fn bone_at(t: &[u32], p: usize) -> Bone
 
 // ---- the rows of a table
 
-// The first n rows of a table. 1 for a table that has fewer.
-#[tactic(auto, using(crate::proofs::Rows::rows_short, crate::proofs::Rows::rows_first))]
+// The first n rows of a table, each a bone's. Refuses 2 above 65,535 bones, then 1 where the table has fewer rows.
+#[tactic(auto, using(crate::proofs::Rows::rows_many, crate::proofs::Rows::rows_short, crate::proofs::Rows::rows_first))]
 pub fn rows_of(t: &[u32], n: usize) -> Result<&[[u32; BONE_WORDS]], Refusal>
     ensures answer { outcome_by (λ rows. map bone_of rows.now) result ≡ bones_got n t.now }
 {
+    if n > MOST {
+        return Err(Refusal::TooManyBones);
+    }
     let (rows, _) = t.as_chunks::<BONE_WORDS>();
     if rows.len() < n {
         return Err(Refusal::TableTooShort);
@@ -245,7 +248,7 @@ pub fn rows_of(t: &[u32], n: usize) -> Result<&[[u32; BONE_WORDS]], Refusal>
 
 // ---- storing a row
 
-// The words of a bone's row.
+// The words of a bone's row. (No From: its call would have to name the array.)
 fn bone_words(b: Bone) -> [u32; BONE_WORDS]
     ensures answer { result ≡ bone_words (meant_bone b) }
 {

@@ -25,7 +25,6 @@ fn check(sys: &[u8]) -> Result<Option<u16>, Refusal>
     if sys.len() > LONGEST {
         return Err(Refusal::TableTooShort);
     }
-    let gfx = [0u8; 1];
     let mut tables = Tables {
         bones: &mut [0u32; 16800],
         buckets: &mut [0u32; 8192],
@@ -45,13 +44,7 @@ fn check(sys: &[u8]) -> Result<Option<u16>, Refusal>
         children: &mut [0u16; 8192],
         pending: &mut [0u32; 6408],
     };
-    let count = verify::check(
-        sys,
-        &gfx[..0],
-        format::SYSTEM_BASE,
-        &mut tables,
-        &mut working,
-    )?;
+    let count = verify::check(sys, &[], format::SYSTEM_BASE, &mut tables, &mut working)?;
     let Some(bones) = count else {
         return Ok(None);
     };

@@ -1,4 +1,3 @@
-pub mod Fill
 pub mod Laid
 pub mod Outcome
 pub mod Rooms

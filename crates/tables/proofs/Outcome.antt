@@ -6,7 +6,7 @@ use mathlib.Core.Bool.{Bool, true, false, ◌&&◌}
 use lib.Dec.{leb}
 use borrow.Author.Tests.{le-leb, leb-true}
 use Rattle.format.specs.Result.{Res, refused, done, ◌>>=◌, need}
-use Rattle.tables.specs.Outcome.{derived, room_for}
+use Rattle.tables.specs.Outcome.{derived}
 
 -- ---- from the tests to the answer
 
@@ -35,16 +35,23 @@ pub enough : {A : Type 0} {a b : A} (n : ℕ) (hold : Bool) → done b ≡ deriv
 unfolding derived
 enough n hold e = let t = passed (leb n 65535) hold e in (leb-true n 65535 t.0, t.1, t.2)
 
--- a refusal does not depend on the value
+-- a refusal does not depend on the value, and what has no room for a part has none for the whole
 stopped :
-    {A B : Type 0} (few hold : Bool) (a : A) (b : B) (c : ℕ) → refused c ≡ tested few hold b → refused c ≡ tested few hold a
-stopped true true a b c e = let z : ◌≡◌ {A = ℕ} 0 1 = cc in absurd (omega arith)
-stopped true false a b c e = cc
-stopped false hold a b c e = cc
+    {A B : Type 0} (few got hold : Bool) (a : A) (b : B) (c : ℕ) → (got ≡ false → hold ≡ false) → refused c ≡ tested few got b
+    → refused c ≡ tested few hold a
+stopped true true hold a b c h e = let z : ◌≡◌ {A = ℕ} 0 1 = cc in absurd (omega arith)
+stopped true false hold a b c h e = rw (h refl) (let q : c ≡ 1 = cc in rw q refl)
+stopped false got hold a b c h e = cc
+
+pub refuses_part :
+    {A B : Type 0} (n : ℕ) (got hold : Bool) (a : A) (b : B) (c : ℕ) → (got ≡ false → hold ≡ false) → refused c ≡ derived n got b
+    → refused c ≡ derived n hold a
+unfolding derived
+refuses_part n got hold a b c h e = stopped (leb n 65535) got hold a b c h e
 
 pub refuses : {A B : Type 0} (n : ℕ) (hold : Bool) (a : A) (b : B) (c : ℕ) → refused c ≡ derived n hold b → refused c ≡ derived n hold a
 unfolding derived
-refuses n hold a b c e = stopped (leb n 65535) hold a b c e
+refuses n hold a b c e = stopped (leb n 65535) hold hold a b c (λ q. q) e
 
 -- ---- tests put together
 

@@ -18,7 +18,7 @@ use Rattle.rows.specs.Value.{our_place}
 use Rattle.format.specs.declared.Place as our
 use Rattle.format.specs.Section.{window}
 use Rattle.write.specs.Records.{takes, takes_all, records, block, bone_record, ShortName, BonesRoom, BlockRoom}
-use Rattle.fields.proofs.RunLaws.{Left, left-none, left-more, left-all}
+use Rattle.fields.proofs.RunLaws.{Left, left-more, left-all}
 use Rattle.write.proofs.Items.{bone_words_lem, header-words}
 use Rattle.write.proofs.Placing.{block_size_lem}
 use Rattle.fields.proofs.Stores.{sets-append}
@@ -71,9 +71,6 @@ pub record Boning (rows : List (List ℕ)) (d₀ : List ℕ) (at names : ℕ) (d
   pub left :
       Left d₀ at (records (base + names) (map bone_of rows)) d to (records (base + name) (map bone_of (drop p rows)))
   pub counts : name + takes_all (map bone_of (drop p rows)) ≡ names + takes_all (map bone_of rows)
-
-pub boning_none : (rows : List (List ℕ)) (d : List ℕ) (at names : ℕ) → Boning rows d at names d at names 0
-boning_none rows d at names = record { stands = omega arith; left = left-none d at _; counts = refl }
 
 module _ {rows : List (List ℕ)} {d₀ : List ℕ} {at names : ℕ} {d : List ℕ} {to name p : ℕ} (r : BonesRoom rows at names (length d₀))
     (h : Boning rows d₀ at names d to name p) (l : p < length rows) {row : List ℕ} (er : row ≡ get_or rows p []) where

@@ -3,11 +3,10 @@
 use mathlib.Core.Path.{◌≡◌, refl, sym, ap, ◌∙◌}
 use mathlib.Core.Bool.{Bool, true, false, not, ◌&&◌, ◌||◌}
 use mathlib.Core.Logic.{⊎_elim}
-use Rattle.std.specs.Prelude.{Option, None, Some, Result, Ok, Err}
+use Rattle.std.specs.Prelude.{Option, None, Some, Result, Ok}
 use Rattle.std.specs.Borrow.{Bor}
 use mathlib.Core.List.{List, [], ◌∷◌, ◌++◌, map, flat_map}
 use Prim.Native.Nat.{ℕ, ◌+◌, ◌-◌, ◌*◌, ◌≤◌, ◌<◌}
-use native.Mathlib.Nat.{zero-add}
 use native.Mathlib.Numerals.{add-one}
 use native.Mathlib.Omega.{arith}
 use borrow.Author.Tests.{le-leb, lt-leb, leb-true}
@@ -29,7 +28,7 @@ use Rattle.rows.specs.Value.{our_place}
 use Rattle.format.specs.declared.Place as our
 use Rattle.write.specs.Records.{takes, takes_all, ShortName}
 use Rattle.write.specs.Names.{name_in, names_result, StoredTo}
-use Rattle.fields.proofs.RunLaws.{Left, left-none, left-all}
+use Rattle.fields.proofs.RunLaws.{Left, left-all}
 use Rattle.write.proofs.Runs.{just_stored, left-past, sets_whole}
 use Rattle.write.proofs.Bones.{name-none, name-some, rows-next}
 
@@ -234,9 +233,6 @@ module _ (lent : Section) (w : List ℕ) {p : our.Place} (e : p ≡ our_place (b
 
   module _ (z : p.address ≡ 0 → ⊥) {r : Result (Bor (List ℕ)) Refusal}
       (l : outcome_by (λ s. take p.size s.now) r ≡ part lent p.address p.size) where
-    pub good-refused : {x : Refusal} → r ≡ Err x → false ≡ good_name lent (bone_of w).name
-    good-refused q = rw (name-some w e z) (ap good_part (ap (outcome_by (λ s. take p.size s.now)) (sym q) ∙ l))
-
     pub good-here :
         {s : Bor (List ℕ)} {g : Bool} → r ≡ Ok s → p.size ≤ 255 → g ≡ no_zero (take p.size s.now) → g ≡ good_name lent (bone_of w).name
     good-here {s} q h f =
@@ -249,9 +245,6 @@ pub record Measuring (lent : Section) (rows : List (List ℕ)) (p total : ℕ) :
   pub good : good_names lent (map bone_of rows) ≡ good_names lent (map bone_of (drop p rows))
   pub counts : total + takes_all (map bone_of (drop p rows)) ≡ takes_all (map bone_of rows)
   pub small : total ≤ 256 * p
-
-pub measuring_none : (lent : Section) (rows : List (List ℕ)) → Measuring lent rows 0 0
-measuring_none lent rows = record { good = refl; counts = zero-add _; small = omega arith }
 
 module _ {lent : Section} {rows : List (List ℕ)} {p total : ℕ} (h : Measuring lent rows p total) where
   module _ (l : p < length rows) {row : List ℕ} (er : row ≡ get_or rows p []) where
@@ -323,9 +316,6 @@ module _ (lent : Section) (w : List ℕ) {p : our.Place} (e : p ≡ our_place (b
 -- the names of the rows from p on are left
 pub record Naming (lent : Section) (rows : List (List ℕ)) (d₀ d : List ℕ) (p to : ℕ) : Type 0 where
   pub left : Left d₀ 0 (all_names (named lent (map bone_of rows))) d to (all_names (named lent (map bone_of (drop p rows))))
-
-pub naming-none : (lent : Section) (rows : List (List ℕ)) (d : List ℕ) → Naming lent rows d d 0 0
-naming-none lent rows d = record { left = left-none d 0 _ }
 
 module _ {lent : Section} {rows : List (List ℕ)} {d₀ d : List ℕ} {p to : ℕ}
     (r : length d₀ ≡ length (all_names (named lent (map bone_of rows)))) (h : Naming lent rows d₀ d p to) where

@@ -20,11 +20,11 @@ use Rattle.format.specs.Rows.{bones_of}
 use Rattle.format.specs.Layout.{Bytes, layout}
 use Rattle.format.specs.Write.{good_names, named, written}
 use Rattle.rows.specs.Row.{bones_got}
-use Rattle.rows.proofs.Rows.{length-bones_of}
+use Rattle.rows.proofs.Rows.{length-bones_of, got_bones}
 use Rattle.write.specs.Records.{takes_all}
 use Rattle.write.specs.Names.{names_result, RowsHere}
 use Rattle.write.specs.Filling.{kids_of, DerivedRows, Held}
-use Rattle.write.specs.Outcome.{outcome, Writes, bones_tested, derived_in, laid_out}
+use Rattle.write.specs.Outcome.{outcome, Writes, derived_in, laid_out}
 use Rattle.tables.specs.Working.{Working}
 
 -- ---- a refusal leaves the buffer as it was
@@ -58,19 +58,11 @@ names_by lent bs s e = by (good_names lent bs) refl e
     by false q f = let z : ◌≡◌ {A = ℕ} 0 1 = cc in absurd (omega arith)
 
 -- the bones that pass the first two
-pub bones_found : (n : ℕ) (t : List ℕ) {bs : List (Bone Place)} → done bs ≡ bones_tested n t → RowsHere t n × (bs ≡ bones_of n t)
-unfolding bones_tested bones_got
-bones_found n t {bs} e = by (leb n 65535) (leb (21 * n) (length t)) refl refl e
-  where
-    by :
-        (x y : Bool) → leb n 65535 ≡ x → leb (21 * n) (length t) ≡ y
-        → done bs ≡ (need 2 x >>= λ u. need 1 y >>= λ v. done (bones_of n t)) → RowsHere t n × (bs ≡ bones_of n t)
-    by true true f g h = (record { rows = leb-true (21 * n) (length t) g; few = leb-true n 65535 f }, cc)
-    by true false f g h = let z : ◌≡◌ {A = ℕ} 0 1 = cc in absurd (omega arith)
-    by false y f g h = let z : ◌≡◌ {A = ℕ} 0 1 = cc in absurd (omega arith)
+pub bones_found : (n : ℕ) (t : List ℕ) {bs : List (Bone Place)} → done bs ≡ bones_got n t → RowsHere t n × (bs ≡ bones_of n t)
+bones_found n t e = let g = got_bones n t e in (record { rows = leb-true (21 * n) (length t) g.1; few = g.0 }, g.2)
 
 pub sound :
-    (lent : Section) (n : ℕ) (t : List ℕ) {bs : List (Bone Place)} {s : ℕ} → done bs ≡ bones_tested n t → done s ≡ names_result lent bs
+    (lent : Section) (n : ℕ) (t : List ℕ) {bs : List (Bone Place)} {s : ℕ} → done bs ≡ bones_got n t → done s ≡ names_result lent bs
     → Sound lent n t s
 sound lent n t {bs} {s} e f =
     let g = bones_found n t e in
@@ -86,8 +78,8 @@ module _ (lent : Section) (room : DeriveRoom) (size n : ℕ) (t : List ℕ) (fre
   outcome_tested true false c rest e = let q : c ≡ 1 = cc in rw q
   outcome_tested true true c rest e = let z : ◌≡◌ {A = ℕ} 0 1 = cc in absurd (omega arith)
 
-  pub outcome-refused : {c : ℕ} → refused c ≡ bones_tested n t → outcome lent room size n t free ≡ refused c
-  unfolding outcome bones_tested bones_got
+  pub outcome-refused : {c : ℕ} → refused c ≡ bones_got n t → outcome lent room size n t free ≡ refused c
+  unfolding outcome bones_got
   outcome-refused {c} e = outcome_tested (leb n 65535) (leb (21 * n) (length t)) c _ e
 
   outcome_named :
@@ -97,7 +89,7 @@ module _ (lent : Section) (room : DeriveRoom) (size n : ℕ) (t : List ℕ) (fre
   outcome_named true c rest e = let z : ◌≡◌ {A = ℕ} 0 1 = cc in absurd (omega arith)
 
   pub outcome-named :
-      {bs : List (Bone Place)} {c : ℕ} → done bs ≡ bones_tested n t → refused c ≡ names_result lent bs
+      {bs : List (Bone Place)} {c : ℕ} → done bs ≡ bones_got n t → refused c ≡ names_result lent bs
       → outcome lent room size n t free ≡ refused c
   unfolding outcome written names_result
   outcome-named {bs} {c} e f =

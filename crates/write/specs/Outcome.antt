@@ -10,7 +10,6 @@ use Rattle.format.specs.Deriving.{DeriveRoom, derives}
 use Rattle.format.specs.Rows.{bone_width, bones_of}
 use Rattle.format.specs.Layout.{Bytes, layout}
 use Rattle.format.specs.Write.{named, written}
-use Rattle.rows.specs.Row.{bones_got}
 use Rattle.tables.specs.Outcome.{size_of}
 use Rattle.write.specs.Filling.{kids_of}
 
@@ -35,12 +34,6 @@ pub record Writes (w : Res Bytes) (r : Result ℕ Refusal) (out out' : List ℕ)
   pub buffer : out' ≡ write_leaves w out
 
 -- ---- its steps
-
--- 2, 1 for the table of bones; its first n
-unfoldable pub bones_tested : ℕ → List ℕ → Res (List (Bone Place))
-bones_tested n t = do
-  u2 ← need 2 (leb n 65535)
-  bones_got n t
 
 -- 1 for the derived tables; the number of child entries
 unfoldable pub derived_in : DeriveRoom → ℕ → List ℕ → Res ℕ

@@ -9,7 +9,7 @@ ghost use Rattle.write.specs.Linked.{entry_items, linked, ChainRoom, ChainsRoom,
 
 use crate::starts::{fill, pointer};
 use crate::words::{put_run, put_zeros};
-use format::{ENTRY_SIZE, ENTRY_WORDS};
+use format::{ENTRY_SIZE, ENTRY_WORDS, POINTER};
 
 // Stores an entry in front of one that lies right behind it, or of none where `link` is 0.
 fn put_entry(d: &mut [u8], at: usize, tag: u32, position: u32, link: u32)
@@ -20,7 +20,7 @@ fn put_entry(d: &mut [u8], at: usize, tag: u32, position: u32, link: u32)
     put_run(d, at, &[tag, position, next, 0]);
 }
 
-// Stores the chain from a link on, and gives where it ends.
+// Stores the chain from a link on, which is 0 for none as in the rows, and gives where it ends.
 fn put_chain(d: &mut [u8], at: usize, entries: &[u32], link: u32) -> usize
     requires { ChainRoom entries.now link at (length d.old) }
     ensures end { result ≡ at + 16 * length (linked entries.now link) }
@@ -54,9 +54,9 @@ pub(crate) fn put_chains(d: &mut [u8], at: usize, to: usize, buckets: &[u32], en
 {
     let mut end = to;
     for (b, head) in buckets.iter().enumerate() {
-        put_pointer(d, at + 8 * b, end, *head);
+        put_pointer(d, at + POINTER * b, end, *head);
         end = put_chain(d, end, entries, *head);
     }
-    let size = 8 * buckets.len();
+    let size = POINTER * buckets.len();
     put_zeros(d, at + size, fill(size));
 }

@@ -1,12 +1,11 @@
 // The writer's tests in their order (docs/FORMAT.md, "Who can cause a refusal": "Writing a skeleton tests 2, 4, 1, 3, 5";
 // a table of bones with fewer rows than asked for is 1 right behind 2).
 ghost use Rattle.std.specs.Prelude.{◌≡◌, length, map};
-ghost use Rattle.format.specs.Refusal.{outcome_by};
 ghost use Rattle.format.specs.Rows.{bone_of};
 ghost use Rattle.blocks.specs.Places.{section_of};
 ghost use Rattle.format.specs.Words.{meant_words4};
 ghost use Rattle.write.specs.Filling.{Held};
-ghost use Rattle.write.specs.Outcome.{outcome, bones_tested, laid_out, Writes};
+ghost use Rattle.write.specs.Outcome.{outcome, laid_out, Writes};
 ghost use Rattle.tables.specs.Working.{lists, room_in, SameTables};
 
 use crate::filling::{Sizes, fill_section};
@@ -18,17 +17,6 @@ use derive_chains::buckets::{bucket_count, entry_count};
 use format::{BONE_WORDS, Refusal, Words4};
 use rows::rows_of;
 use tables::working::Working;
-
-// The rows of the first n bones of a table, which C lends with their number: refusals 2, 1 for the table.
-#[tactic(auto, unfolding(crate::specs::Outcome::bones_tested))]
-fn check_bones(bones: &[u32], n: usize) -> Result<&[[u32; BONE_WORDS]], Refusal>
-    ensures answer { outcome_by (λ rows. map bone_of rows.now) result ≡ bones_tested n bones.now }
-{
-    if n > format::MOST {
-        return Err(Refusal::TooManyBones);
-    }
-    rows_of(bones, n)
-}
 
 // Tests the child entries and the buffer, and fills it: refusals 3, 5.
 fn lay_out(
@@ -71,7 +59,7 @@ pub(crate) fn attempt(
         result out.old out.new }
     ensures same { SameTables tables.old tables.new }
 {
-    let rows = check_bones(bones, n)?;
+    let rows = rows_of(bones, n)?;
     let name_bytes = measure_names(rows, names)?;
     let children_count = derive_tables(bones, n, tables)?;
     let sizes = Sizes {

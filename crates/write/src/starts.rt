@@ -64,7 +64,7 @@ pub(crate) fn place(buckets: usize, entries: usize, n: usize, names: usize) -> S
     ensures answer { meant_starts result ≡ Layout.starts buckets entries n names }
 {
     let b1 = format::SKELETON_SIZE;
-    let b2 = after(b1, 8 * buckets);
+    let b2 = after(b1, format::POINTER * buckets);
     let b3 = after(b2, format::ENTRY_SIZE * entries);
     let b4 = after(b3, block_size(n));
     let b5 = after(b4, names);

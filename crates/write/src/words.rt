@@ -1,4 +1,5 @@
-// Numbers and bytes stored one behind the other in a lent buffer. The callers know that there is room.
+// Numbers and bytes stored one behind the other in a lent buffer. The callers know that there is room. (From an offset on, here and in the parts
+// of a section, and not into cut slices: where each part starts is settled first, and the clauses of all speak of one buffer.)
 ghost use Rattle.std.specs.Prelude.{◌≡◌, ◌+◌, ◌*◌, ◌≤◌, length, take, replicate};
 ghost use Rattle.std.proofs.lemmas.List.Edits.{sets};
 ghost use Rattle.format.specs.Field.{word_bytes};

@@ -1,38 +1,27 @@
--- The laws of comparing, at the bytes of a part.
-use Rattle.std.proofs.Common.{◌≡◌, refl, sym, ◌∙◌, get_or, arith}
+-- `replay_sample::same_bytes` meets its contract: the buffer is no shorter, and each place has the part's byte. Assumes nothing.
+use Rattle.std.proofs.Common.{◌∙◌, get_or, rules, tests}
 use Rattle.std.proofs.lemmas.List.{map-id}
-use Rattle.std.proofs.lemmas.Grind.{common_steps}
-use borrow.Author.Tests.{eq-eqb, ne_eqb}
+use Rattle.std.proofs.lemmas.Iterator.{YieldsList-from_slice}
+use Rattle.std.proofs.lemmas.Iterator.Consumers.{YieldsList-from_enumerate}
+use Rattle.std.proofs.lemmas.Iterator.Search.{all_from_yields_List}
 use lib.Dec.{eqb}
-use Rattle.replay_sample.proofs.Comparing.{same_longer, same_place, same_all}
+use Rattle.replay_sample.proofs.Comparing.{same_longer, same_places}
 use Rattle.replay_sample.proofs.same_bytes.Goals as goal
 
-pub returns-then-buffer-part : goal.returns-then-buffer-part
-returns-then-buffer-part c =
-    record { answer = same_longer eqb (λ n. n) (λ l. l) map-id c.args.buffer.now c.args.part.now c.args.rest c.if-buffer-part.true }
-
-pub returns-then-have-unwrap_or : goal.returns-then-have-unwrap_or
-returns-then-have-unwrap_or c =
-    let wanted : c.unwrap_or.result ≡ get_or c.args.part.now c.loop-place.place c.args.rest = grind (arith, common_steps) in
+pub returns-then-part-buffer : goal.returns-then-part-buffer
+returns-then-part-buffer c =
     record {
       answer =
-          sym (same_place eqb (λ n. n) (λ l. l) map-id c.args.buffer.now c.args.part.now c.args.rest c.if-buffer-part.false
-          c.loop-place.place c.loop-place-test.true 0 refl wanted (sym (ne_eqb _ _ c.if-have-unwrap_or.true)))
-          ∙ c.loop-place.invariant;
+          all_from_yields_List (λ p. eqb p.1 (get_or c.args.part.now p.0 c.args.rest)) c.all.new.self _ c.all.result c.all.ensures.ran
+          (YieldsList-from_enumerate (YieldsList-from_slice c.args.buffer.now (search rules)) (search rules))
+          (λ x b q k. search (rules, tests))
+          ∙ same_places eqb (λ n. n) (λ l. l) map-id c.args.buffer.now c.args.part.now c.args.rest c.if-part-buffer.true;
     }
 
-pub loop-place-preserved : goal.loop-place-preserved
-loop-place-preserved c =
-    let wanted : c.unwrap_or.result ≡ get_or c.args.part.now c.loop-place.place c.args.rest = grind (arith, common_steps) in
-    sym (same_place eqb (λ n. n) (λ l. l) map-id c.args.buffer.now c.args.part.now c.args.rest c.if-buffer-part.false
-    c.loop-place.place c.loop-place-test.true 0 refl wanted (sym (eq-eqb _ _ c.if-have-unwrap_or.false)))
-    ∙ c.loop-place.invariant
-
-pub returns : goal.returns
-returns c =
+pub returns-else-part-buffer : goal.returns-else-part-buffer
+returns-else-part-buffer c =
     record {
       answer =
-          same_all eqb (λ n. n) (λ l. l) map-id c.args.buffer.now c.args.part.now c.args.rest c.if-buffer-part.false c.loop-place.place
-          c.loop-place-test.false
-          ∙ c.loop-place.invariant;
+          (search (rules, tests)) ∙
+          same_longer eqb (λ n. n) (λ l. l) map-id c.args.buffer.now c.args.part.now c.args.rest c.if-part-buffer.false;
     }

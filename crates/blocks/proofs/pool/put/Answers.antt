@@ -9,12 +9,9 @@ use Rattle.blocks.proofs.Table.{row_lt}
 use Rattle.blocks.proofs.Storing.{stores-none, stores-done, stores-full, stores-linked}
 use Rattle.blocks.proofs.pool.put.Goals as goal
 
-pub returns-then-rows-eq0 : goal.returns-then-rows-eq0
-returns-then-rows-eq0 c =
-    record {
-      table =
-          stores-none c.args.pool.now (pool_row c.args.va (meant_kind c.args.kind) c.args.stored.first c.args.stored.count) c.if-rows-eq0.true;
-    }
+pub returns-then-rows-eq0-clause-table : goal.returns-then-rows-eq0-clause-table
+returns-then-rows-eq0-clause-table c =
+    stores-none c.args.pool.now (pool_row c.args.va (meant_kind c.args.kind) c.args.stored.first c.args.stored.count) c.if-rows-eq0.true
 
 pub store-requires : goal.store-requires
 store-requires c = row_lt c.args.pool.now c.args.va _ c.in-Row.ensures
@@ -26,13 +23,13 @@ pub store-requires-in-Tree : goal.store-requires-in-Tree
 store-requires-in-Tree c =
     omega (arith, c.in-Tree.ensures.free.low, linkable_le (pool_rows c.args.pool.now), c.link.auto.pool)
 
-pub returns-in-Full : goal.returns-in-Full
-returns-in-Full c = record { table = stores-full c.args.pool.now _ c.in-Full.ensures }
+pub returns-in-Full-clause-table : goal.returns-in-Full-clause-table
+returns-in-Full-clause-table c = stores-full c.args.pool.now _ c.in-Full.ensures
 
-pub returns-in-Row : goal.returns-in-Row
-returns-in-Row c =
-    record { table = rw c.store.ensures.table (stores-done c.args.pool.now _ _ c.in-Row.ensures) }
+pub returns-in-Row-clause-table : goal.returns-in-Row-clause-table
+returns-in-Row-clause-table c =
+    rw c.store.ensures.table (stores-done c.args.pool.now _ _ c.in-Row.ensures)
 
-pub returns-in-Tree : goal.returns-in-Tree
-returns-in-Tree c =
-    record { table = rw c.store-in-Tree.ensures.table (stores-linked c.args.pool.now _ _ c.in-Tree.ensures _ c.link.ensures) }
+pub returns-in-Tree-clause-table : goal.returns-in-Tree-clause-table
+returns-in-Tree-clause-table c =
+    rw c.store-in-Tree.ensures.table (stores-linked c.args.pool.now _ _ c.in-Tree.ensures _ c.link.ensures)

@@ -8,4 +8,4 @@ use Rattle.derive_chains.proofs.tags.enter_tags.Given as goal
 
 abbrev pub invariant-loop-p : goal.invariant-loop-p
 invariant-loop-p l =
-    Entering (tags (map bone_of l.bones)) (length l.bones) l.count l.p l.initial.buckets l.initial.entries l.buckets l.entries
+    Entering (tags (map bone_of l.bones)) (length l.bones) l.p l.initial.buckets l.initial.entries l.buckets l.entries

@@ -14,4 +14,9 @@ pub returns-after-loop-step : goal.returns-after-loop-step
 returns-after-loop-step g c = record { answer = sym (walk_spent _ _ _ _ c.loop-step-test.false) ∙ c.loop-step.invariant }
 
 pub returns-then-not-climbs : goal.returns-then-not-climbs
-returns-then-not-climbs g c = record { answer = sym (walk-stops c.args.bones.now c.loop-step.p _ _ (λ h. let e = c.climbs.ensures.answer.1 h in let f = c.if-not-climbs.true in cc)) ∙ c.loop-step.invariant }
+returns-then-not-climbs g c =
+    record {
+      answer =
+          sym (walk-stops c.args.bones.now c.loop-step.p _ _
+          (λ h. let e = c.climbs.ensures.answer.1 h in let f = c.if-not-climbs.true in cc)) ∙ c.loop-step.invariant;
+    }

@@ -8,30 +8,30 @@ use Rattle.read_bones.proofs.Rows.{has_row_lt}
 use Rattle.read_bones.proofs.Bones.{stored_is, bone-name-refused, bone_no_room, bone-full, bone-done}
 use Rattle.read_bones.proofs.bone.bone_from.Goals as goal
 
-pub returns-in_err-name : goal.returns-in_err-name
-returns-in_err-name c =
+pub returns-in_err-name-clause-tables : goal.returns-in_err-name-clause-tables
+returns-in_err-name-clause-tables c =
     let p = err_from_is_err_and c.from_residual.result c.from_residual.ensures.1 in
     rw (p.1, p.2) (bone-name-refused _ c.args.b.now c.args.va c.args.used _ c.read.ensures.answer c.read_name.ensures c.in_err-name.was)
 
-pub returns-in_err-put_bone : goal.returns-in_err-put_bone
-returns-in_err-put_bone c =
+pub returns-in_err-put_bone-clause-tables : goal.returns-in_err-put_bone-clause-tables
+returns-in_err-put_bone-clause-tables c =
     let p = err_from_is_err_and c.from_residual-in_err-put_bone.result c.from_residual-in_err-put_bone.ensures.1 in
     rw (p.1, p.2) (bone_no_room _ c.args.b.now c.args.va c.args.used _ c.read.ensures.answer c.read_name.ensures c.in_ok-name.was _
     c.put_bone.ensures.answer _ c.in_err-put_bone.was)
 
 pub overflow_add-result : goal.overflow_add-result
 overflow_add-result c =
-    let has = stored_is (has_row c.args.bones.now c.args.used) (sym (ap outcome c.in_ok-put_bone.was) ∙ c.put_bone.ensures.answer) in
-    omega (arith, c.well_formed, has_row_lt c.args.bones.now c.args.used has)
+    let has = stored_is (has_row c.args.tables.now.bones.now c.args.used) (sym (ap outcome c.in_ok-put_bone.was) ∙ c.put_bone.ensures.answer) in
+    omega (arith, c.well_formed, has_row_lt c.args.tables.now.bones.now c.args.used has)
 
-pub returns-in_err-put_at : goal.returns-in_err-put_at
-returns-in_err-put_at c =
-    let p = err_from_is_err_and c.from_residual-in_err-put_at.result c.from_residual-in_err-put_at.ensures.1 in
+pub returns-in_err-pool_bone-clause-tables : goal.returns-in_err-pool_bone-clause-tables
+returns-in_err-pool_bone-clause-tables c =
+    let p = err_from_is_err_and c.from_residual-in_err-pool_bone.result c.from_residual-in_err-pool_bone.ensures.1 in
     rw (p.1, p.2) (bone-full _ c.args.b.now c.args.va c.args.used _ c.read.ensures.answer c.read_name.ensures c.in_ok-name.was _
-    c.put_bone.ensures.answer c.in_ok-put_bone.was (c.put_at.ensures.table.at c.place-spot.ensures.row) _ c.in_err-put_at.was)
+    c.put_bone.ensures.answer c.in_ok-put_bone.was c.pool_bone.ensures _ c.in_err-pool_bone.was)
 
-pub returns : goal.returns
-returns c =
+pub returns-clause-tables : goal.returns-clause-tables
+returns-clause-tables c =
     bone-done _ c.args.b.now c.args.va c.args.used _ c.read.ensures.answer c.read_name.ensures c.in_ok-name.was _
-    c.put_bone.ensures.answer c.in_ok-put_bone.was (c.put_at.ensures.table.at c.place-spot.ensures.row) c.bone_in.result
-    c.bone_in.ensures c.put_bone.ensures.rows c.in_ok-put_at.was
+    c.put_bone.ensures.answer c.in_ok-put_bone.was c.pool_bone.ensures c.bone_in.result
+    c.bone_in.ensures c.put_bone.ensures.rows c.in_ok-pool_bone.was

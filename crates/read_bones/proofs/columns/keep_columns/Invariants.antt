@@ -4,4 +4,4 @@ use Rattle.read_bones.proofs.Keeping.{Keeping}
 use Rattle.read_bones.proofs.columns.keep_columns.Given as goal
 
 abbrev pub invariant-loop-row : goal.invariant-loop-row
-invariant-loop-row l = Keeping l.n l.words l.local l.initial.bones l.row l.bones
+invariant-loop-row l = Keeping l.n l.matrices l.initial.bones l.row l.bones
