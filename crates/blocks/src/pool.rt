@@ -119,7 +119,8 @@ fn search(pool: &[u64], va: u64, h: usize) -> Spot
 // Where the search for an address ends: at its own row, or a free one near its home; else, where the tree has a free row for it, at that
 // one. One search serves `cached_at` and `put_at`, as long as no other row is stored between them. It looks at 16 rows near the home, and along
 // 65 of the tree at most (specs/Bound.antt), and then for the tree's free row; mostly it ends at the home itself, which is asked here, so that
-// the rest is not in the code of every caller.
+// the rest is not in the code of every caller. (Inlined, as is what asks by it: by calls reading 1,000 bones took 1.2 to 1.4 times as long.)
+#[inline(always)]
 pub fn place(pool: &[u64], va: u64) -> Spot
     ensures row { PlacedAt pool.now va result }
 {
@@ -135,6 +136,7 @@ pub fn place(pool: &[u64], va: u64) -> Spot
 }
 
 // What stands where the search for an address ended.
+#[inline(always)]
 fn row_at(pool: &[u64], spot: Spot) -> Option<Pooled>
     ensures { FindsAt pool.now spot result }
 {
@@ -165,6 +167,7 @@ pub fn find(pool: &[u64], va: u64) -> Option<Pooled>
 }
 
 // What was read as a kind at an address whose search ended at a spot; 12 where another kind was.
+#[inline(always)]
 pub fn cached_at(pool: &[u64], kind: Kind, spot: Spot) -> Result<Option<Stored>, Refusal>
     ensures answer { FindsAsAt pool.now (meant_kind kind) spot result }
 {
@@ -176,6 +179,7 @@ pub fn cached_at(pool: &[u64], kind: Kind, spot: Spot) -> Result<Option<Stored>,
 }
 
 // What was read at an address as a kind; 12 where another kind was.
+#[inline(always)]
 pub fn cached_as(pool: &[u64], kind: Kind, va: u64) -> Result<Option<Stored>, Refusal>
     ensures answer { FindsAs pool.now (meant_kind kind) va result }
 {

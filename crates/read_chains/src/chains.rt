@@ -56,6 +56,7 @@ fn link_of(row: u64) -> u32
 }
 
 // The link to an address, as far as the pool knows it: 12 where another kind was read there.
+#[inline(always)]
 fn link_to(pool: &[u64], va: u64) -> Result<Link, Refusal>
     ensures { LinksTo pool.now va result }
 {
