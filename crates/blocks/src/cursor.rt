@@ -48,7 +48,7 @@ impl<'a> Cursor<'a> {
     }
 
     // ---- Each read gives what stands at the position, or zeros where not all its bytes stand, which it marks. It leaves the cursor
-    // behind its bytes, past the end too.
+    // behind its bytes, past the end too. (Each by its name in the Rust, one line over `take`.)
 
     pub fn u8(&mut self) -> u8
         ensures answer { result ≡ read_by (field_at 1) self.old }

@@ -3,8 +3,8 @@
 // first and the count of what is stored (of a name, its address and its size). The code word has the kind's code, 0 for a free row, so
 // that any address has its row, and the links of the tree. A table of n words has n / 4 rows; the words behind the last row are not used.
 // Callers carry `Represents t n q`, that the table t of n rows holds the pool q, from the cleared table, which holds the empty pool,
-// through every `put`. Of a table that holds no pool nothing is promised but safety. (No struct of the pool: what the table holds is no invariant
-// of a lent slice, and only the callers know from where on it does.)
+// through every `put`. Of a table that holds no pool nothing is promised but safety. (No struct of the pool:
+// `Represents` is known to callers alone, from their clearing on; and without that fact a struct is the words again.)
 ghost use Rattle.std.specs.Prelude.{◌≡◌, ℕ, ◌+◌, ◌≤◌, ◌<◌, IfErr};
 ghost use Rattle.format.specs.declared.Refusal.TheVariants.{TableTooShort};
 ghost use Rattle.blocks.specs.Kinds.{meant_kind};
@@ -30,7 +30,7 @@ pub struct Pooled {
     pub stored: Stored,
 }
 
-// Where the search for an address ends.
+// Where the search for an address ends. (No Option: three ends, and `put` goes another way at each.)
 #[derive(Clone, Copy, Debug, PartialEq, Eq)]
 pub enum Spot {
     // at a row: its own, or a free one
@@ -119,7 +119,8 @@ fn search(pool: &[u64], va: u64, h: usize) -> Spot
 // Where the search for an address ends: at its own row, or a free one near its home; else, where the tree has a free row for it, at that
 // one. One search serves `cached_at` and `put_at`, as long as no other row is stored between them. It looks at 16 rows near the home, and along
 // 65 of the tree at most (specs/Bound.antt), and then for the tree's free row; mostly it ends at the home itself, which is asked here, so that
-// the rest is not in the code of every caller. (Inlined, as is what asks by it: by calls reading 1,000 bones took 1.2 to 1.4 times as long.)
+// the rest is not in the code of every caller. (Inlined, as are `row_at`, `cached_at` and `cached_as`: by calls reading
+// 1,000 bones took 1.2 to 1.4 times as long. `PlacedAt` stands in contracts: it is of the table as it is until the next row is stored.)
 #[inline(always)]
 pub fn place(pool: &[u64], va: u64) -> Spot
     ensures row { PlacedAt pool.now va result }

@@ -30,7 +30,8 @@ fn front<T>(table: &[T], n: usize) -> &[T]
 
 // ---- words
 
-// Whether the first k words of a table equal the first m of another, their number included; a table that has fewer gives them all.
+// Whether the first k words of a table equal the first m of another, their number included; a table that has fewer gives them all. (The
+// counts as a reading and deriving leave them: cut here for both.)
 pub fn same_words<T: PartialEq>(a: &[T], k: usize, b: &[T], m: usize) -> bool
     ensures answer { result ≡ same_list T.eq (take k a.now) (take m b.now) }
 {

@@ -1,8 +1,9 @@
 // The stages of the check behind reading (docs/FORMAT.md, "Lookup and check"): whether the working tables have room, and then chains,
 // indices and matrices. Each stage derives from the bones read into working tables, compares with what was read, and leaves its
 // working tables zero. Counts are of words, buckets or bones; what is absent counts 0.
-// (A table stands beside its count, not cut to it: so a reading leaves the two, and comparing cuts the read and the derived alike.
-// Bones and their number are as deriving takes them, which C calls so.)
+// (A table stands beside its count: a reading leaves the two, and `same_words` and `same_chains` cut both sides in one place. Bones are lent as
+// deriving takes them, a table and how many rows count, as C lends them. Three stages, of other tables and refusals: each is lent what it fills,
+// since of other working tables it would have to say that they stay.)
 #![tactic(auto)]
 
 ghost use Rattle.std.specs.Prelude.{◌≡◌, ◌≤◌, length};

@@ -29,6 +29,7 @@ pub struct Counts {
     pub children: usize,
 }
 
+// How much of each part was read; nothing of a part that does not stand, and of a refusal.
 pub fn count_parts(r: Result<Option<Skeleton>, Refusal>) -> Counts
     ensures answer { result ≡ counts_of r }
 {
@@ -63,7 +64,7 @@ pub fn begin(
     }
 }
 
-// ---- The three steps: each is a stage, where nothing was refused so far, and else clears the working tables of its own. (No one step takes
+// ---- The three steps: each is a stage, where nothing was refused so far, and else clears its own working tables. (No one step takes
 // its stage as a closure: the clearing would stand behind the call of it, and clear once more what the stage has cleared.)
 
 // 21: the chains. The working tables are zero after it.

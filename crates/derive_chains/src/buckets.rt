@@ -2,8 +2,8 @@
 ghost use Rattle.std.specs.Prelude.{◌≡◌};
 ghost use Rattle.format.specs.Chains.{num_hash_buckets, bucket_count, entry_count};
 
-// The first of the ladder greater than n, else 65521. (Each answer has a branch of its own and no loop finds it: so it is asked for,
-// docs/changes/A4.md, and `compare/branches` reports which branches, and with them which answers, the trial rigs reach.)
+// The first of the ladder greater than n, else 65521. (Each answer has a branch of its own and no loop finds it, as
+// docs/changes/A4.md asks, and `compare/branches` reports which branches, and with them which answers, the trial rigs reach.)
 #[tactic(auto, unfolding(format::specs::Chains::num_hash_buckets, format::specs::Chains::first_above, format::specs::Chains::ladder))]
 pub fn num_hash_buckets(n: usize) -> usize
     ensures answer { result ≡ num_hash_buckets n }

@@ -1,9 +1,10 @@
 // An index of the bones by parent, in the table lent as the pending list: each position leads to the next one with the same
-// parent, and each bone to its first child. A position is held as a word, one more than it; 0 is none.
+// parent, and each bone to its first child. A position is held as a word, one more than it; 0 is none. (No Option: the words go into the lent
+// table as they are.)
 // Of n bones the table's words are: next sibling n, first child n, and then the slots n + 1, links n and heads n of the index,
 // which the pile of pending bones overwrites once every bone has its first child. (One table, since C lends one: no call has other memory.
 // By offsets, and not as five slices: each contract would tell of every one what is stored and what stays.
-// `IndexTable` stands in the contracts: it is of the positions from `i` on, and each that is entered has another `i`.)
+// `IndexTable` stands in the contracts: it is of the positions from `i` on, and each position entered lowers `i`.)
 ghost use Rattle.std.specs.Prelude.{◌≡◌, ℕ, suc, ◌+◌, ◌*◌, ◌≤◌, ◌<◌, length};
 ghost use Rattle.format.specs.Children.{positions};
 ghost use Rattle.format.specs.Rows.{cleared};

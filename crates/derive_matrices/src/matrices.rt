@@ -34,7 +34,7 @@ fn matrices_room(
 }
 
 // The inverse matrix of a bone whose walk ends there. Column 4 is four +0. (Inlined: a call for each bone was measured a tenth slower,
-// and so it is with `local_words`.)
+// and one of `local_words` too.)
 #[inline(always)]
 fn inverse_words(end: Pose) -> [u32; 16]
     ensures answer { result ≡ inverse_from (meant_pose end) }

@@ -115,7 +115,7 @@ pub(crate) fn joint_in<const PLAIN: bool>(row: &[u32; BONE_WORDS]) -> Joint
     }
 }
 
-// A bone before its first step. (No From: what a joint becomes on the walk depends on the step.)
+// A bone before its first step. (No From: the name tells that no step is done; at a later one a joint is no climber.)
 pub(crate) fn before(own: Joint) -> Climber
     ensures answer { climber_pose result ≡ own_pose own }
     ensures parent { result.parent ≡ own.parent }

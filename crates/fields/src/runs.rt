@@ -1,5 +1,6 @@
 // Runs of numbers in lent slices: from bytes into a table, from a table into bytes, and from one table into another. A run that does not lie
-// wholly in both slices is not stored: every item is as it was.
+// wholly in both slices is not stored: every item is as it was. (From an offset on, and not cut slices: whether so much stands is what they
+// answer.)
 ghost use Rattle.std.specs.Prelude.{◌≡◌, ◌+◌, ◌*◌, ◌≤◌, ◌<◌, length, take, drop, is_ok};
 ghost use Rattle.format.specs.Field as Field;
 ghost use Rattle.format.specs.Field.{words, word_bytes};
@@ -73,7 +74,8 @@ fn load_all<T: Pod>(s: &[u8], t: &mut [T])
     load_each(&s[T::SIZE * at..], &mut t[at..]);
 }
 
-// A block, by a copy, which cannot overlap the table, so that its numbers are loaded and stored at once.
+// A block of 16, by a copy from an array, which cannot overlap the table: its numbers are loaded and stored at once. (Rows of 49 words are not
+// stored so: `joints`.)
 fn load_block<T: Pod>(s: &[u8], t: &mut [T])
     requires { (length s.now ≡ T.SIZE * 16) × (length t.old ≡ 16) }
     ensures { t.new ≡ T.values (words T.SIZE 16 s.now) }

@@ -166,8 +166,8 @@ pub struct Words4 {
     pub w: u32,
 }
 
-// Where a name lies: its address and its length in bytes. Where a row holds one, address 0 is no name. (No Option: a row stores both words as they
-// are, and C reads them so.)
+// Where a name lies: its address and its length in bytes. Where a row holds one, address 0 is no name. (No Option: the pool, a
+// bone and a row pass both words on; what the name is for asks.)
 #[derive(Clone, Copy, Debug, PartialEq, Eq)]
 pub struct Place {
     pub address: u64,

@@ -63,6 +63,7 @@ pub trait Limit<const BYTES: usize, const WORDS: usize> {
     ghost written_so: { (size : ℕ) (row : List ℕ) → written size row ≡ limit_written (fits row) BYTES size (slots_in row) };
 }
 
+// Its record has 16 bits for an id.
 pub struct Rotation;
 
 impl Limit<192, 49> for Rotation {

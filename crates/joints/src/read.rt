@@ -12,6 +12,7 @@ use crate::rows;
 use blocks::places::Section;
 use format::Refusal;
 
+// Joints that were read: the words that stay, and of each list how many limits it has, if it stands.
 #[derive(Clone, Copy, Debug, PartialEq, Eq)]
 pub struct Joints {
     // the kind word and the two counts, as they are stored

@@ -92,8 +92,8 @@ fn fill(section: Section, root: u64, t: &mut Tables) -> Result<Skeleton, Refusal
     })
 }
 
-// Reads the skeleton at a root address of a section, with an empty pool. Then the tables hold
-// the rows read and zeros behind them: bones 21 words a row, buckets one, entries three (tag, position, link), matrices sixteen,
+// Reads the skeleton at a root address of a section, with an empty pool. Then the tables hold the rows read and zeros behind them: bones 21
+// words a row, buckets one, entries three (tag, position, link), matrices sixteen,
 // parents and children one. Root 0 gives none. Refusals, the first in reading order: 10 and 11 for the 98 bytes of the record,
 // then those of buckets and chains, bones and names (13 for a bones pointer from 1 to 15), inverse, local, parents, children (12,
 // 10 and 11 for an address, 1 where a table has no row left), and 1 where the pool has no row for the skeleton. After none and

@@ -37,7 +37,7 @@ fn buckets_in(
     Ok(array.map(|array| array.stored.count as usize))
 }
 
-// The same, each table lent by itself. (Two functions: of one that makes the struct and goes on with the answer the proof did not close.)
+// The same, each table lent by itself. (Two functions: for three tables the proof of one, made as `bones_in` is, did not close.)
 fn chains_in(
     section: Section,
     va: u64,
@@ -187,8 +187,8 @@ pub fn read_indices(
     )
 }
 
-// The kept words of the bones, where bones and local matrices stand. The matrices are lent by `&mut`, since they lie beside the bones in one
-// struct, and stay.
+// The kept words of the bones, where bones and local matrices stand. (The matrices by `&mut`, and they stay: of a field `&mut [u32]` that is
+// passed as `&[u32]` a proof knows the length alone afterwards.)
 pub fn keep(bones: &mut [u32], rows: Option<usize>, local: &mut [u32], words: Option<usize>)
     ensures bones { KeepsPart rows words local.old bones.old bones.new }
     ensures local { local.new ≡ local.old }

@@ -62,7 +62,7 @@ fn read_name(section: Section, va: u64, pool: &mut [u64]) -> Result<Place, Refus
     }
 }
 
-// ---- the fields of a bone (functions and no From: each lies at a place among the record's bytes)
+// ---- the fields of a bone (No From: not any bytes are three or four words, but those of a record; two, since the structs have named fields.)
 
 // Three words from `at` on.
 fn words3(b: &[u8], at: usize) -> Words3

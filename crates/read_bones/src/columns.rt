@@ -21,7 +21,8 @@ fn put_kept(bones: &mut [u32], row: usize, x: u32, y: u32, z: u32, w: u32)
 }
 
 // Each of the first n bones takes column 4 (words 3, 7, 11 and 15) of its matrix as its kept words, while there are matrices. The
-// matrices are the first `words` words of `local`. Only rows that the table has are changed.
+// matrices are the first `words` words of `local`. Only rows that the table has are changed. (Both counts as a reading leaves them,
+// which may tell more than the tables have.)
 pub fn keep_columns(bones: &mut [u32], n: usize, local: &[u32], words: usize)
     ensures table { KeepsColumns n words local.now bones.old bones.new }
 {

@@ -24,8 +24,8 @@ const HEADER_SIZE: u64 = format::BLOCK_HEADER_SIZE as u64;
 
 const BONE_SIZE: u64 = format::BONE_SIZE as u64;
 
-// A bones block that was read: its first member and how many there are, and how many rows of bones are used now. (The list of `read_lists` has the
-// same fields; neither crate rests on the other.)
+// A bones block that was read: its first member and how many there are, and how many rows of bones are used now. (`List` of `read_lists` has the
+// same fields: one struct in `blocks` for a list and a block would need a name of neither.)
 #[derive(Clone, Copy, Debug, PartialEq, Eq)]
 pub struct Block {
     pub stored: Stored,

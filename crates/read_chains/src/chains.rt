@@ -70,8 +70,8 @@ fn link_to(pool: &[u64], va: u64) -> Result<Link, Refusal>
     }
 }
 
-// Stores the three words of a row. (Here and where the chains are derived and compared, each for itself: a function of another crate would ask
-// nothing of its callers, and test again what they know.)
+// Stores the three words of a row. (Here and where chains are derived, each for itself: public functions here have no `requires`, and one would
+// test again what both know.)
 fn store(entries: &mut [u32], row: usize, tag: u32, position: u32, link: u32)
     requires { row < entry_room (length entries.old) }
     ensures { entries.new ≡ sets entries.old (3 * row) (tag ∷ position ∷ link ∷ []) }

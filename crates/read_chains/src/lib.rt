@@ -18,7 +18,7 @@ use format::{POINTER, Refusal};
 
 mod chains; // entries, chains, and the link to a chain's head
 
-// How many rows of buckets and of entries are used.
+// How many rows of buckets and of entries are used. (The tables are lent whole: the next row is stored behind.)
 #[derive(Clone, Copy, Debug, PartialEq, Eq)]
 pub struct Used {
     pub buckets: usize,

@@ -1,5 +1,6 @@
 // Words stored as new rows of a lent table, behind its `used` words, all or none: read from a section's bytes, or copied from the
-// other table of the kind (docs/FORMAT.md, "Finding bytes", "Who can cause a refusal": 1 for an array after its bytes).
+// other table of the kind (docs/FORMAT.md, "Finding bytes", "Who can cause a refusal": 1 for an array after its bytes). (The table is lent whole,
+// with how much of it is used: the next row is stored behind.)
 ghost use Rattle.std.specs.Prelude.{◌≡◌, ◌*◌, ◌/◌, length};
 ghost use Rattle.blocks.specs.Places.{section_of};
 ghost use Rattle.read_lists.specs.Storing.{Copies, ReadsNewList};

@@ -67,7 +67,8 @@ fn lists_agree(
 
 // ---- the call
 
-// Lends the four lists, as long as the run has them, beside the other tables, and compares the answer and the lists.
+// Lends the four lists, as long as the run has them, beside the other tables, and compares the answer and the lists. (The tables by themselves: a
+// test's buffers, of which `rows_into` compares four.)
 fn lists_into(
     case: &[u8],
     root: u64,

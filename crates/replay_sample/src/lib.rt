@@ -76,8 +76,8 @@ pub fn loaded(part: &[u8]) -> [u32; 672]
     table
 }
 
-// At most n, and at most as many as the table has, so that its front of so many can be lent. (A length: a slice of which a part is
-// handed back has no exit.)
+// At most n, and at most as many as the table has. (A length: callers lend the front by `&mut`, and of a part handed back so no clause tells the
+// rest.)
 pub fn within<T>(n: usize, table: &[T]) -> usize
     ensures answer { Front (min n (length table.now)) table.now result }
 {

@@ -41,7 +41,7 @@ pub fn given(r: Result<Option<usize>, Refusal>) -> usize
     }
 }
 
-// The same of the position that a lookup gives. (Its own function, for the type: a position is a stored word, and a count is not.)
+// The same of the position that a lookup gives. (Its own function: `given` behind two closures that cast the word would be no shorter.)
 pub fn looked_position(r: Result<Option<u32>, Refusal>) -> usize
     ensures { result ≡ given (outcome r) }
 {

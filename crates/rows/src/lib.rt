@@ -232,6 +232,7 @@ pub fn bone_at(t: &[u32], p: usize) -> Bone
 // ---- the rows of a table
 
 // The first n rows of a table, each a bone's. Refuses 2 above 65,535 bones, then 1 where the table has fewer rows.
+// (C lends a table and how many rows count: here they become rows.)
 #[tactic(auto, using(crate::proofs::Rows::rows_many, crate::proofs::Rows::rows_short, crate::proofs::Rows::rows_first))]
 pub fn rows_of(t: &[u32], n: usize) -> Result<&[[u32; BONE_WORDS]], Refusal>
     ensures answer { outcome_by (λ rows. map bone_of rows.now) result ≡ bones_got n t.now }

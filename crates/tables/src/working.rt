@@ -1,6 +1,7 @@
 // The tables that deriving fills, as the writer and the check lend them.
 ghost use Rattle.tables.specs.Working.{lists, SameTables, Zeroed};
 
+// The seven of them, each lent by `&mut`.
 #[derive(Drop)]
 pub struct Working<'a> {
     pub buckets: &'a mut [u32],

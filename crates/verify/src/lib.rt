@@ -13,8 +13,8 @@ use format::Refusal;
 use read::Tables;
 use tables::working::Working;
 
-// Checks the skeleton at a root address of a section: reads it, and compares its chains, parents,
-// children and matrices with those derived from the bones read. Gives the number of bones read, and none for root 0. Refusals:
+// Checks the skeleton at a root address of a section: reads it, and compares its chains, parents, children and matrices with those derived
+// from the bones read. Gives the number of bones read, and none for root 0. Refusals:
 // reading's, 1 where a table for deriving is too short, 21 to 25. After an acceptance the tables of the reading hold what it gives;
 // else they are zero. The pool and the tables for deriving are zero after every call.
 // The halves stand beside one another here: of the bytes of a slice lent a proof knows that they are bytes, and not of those in a struct.
