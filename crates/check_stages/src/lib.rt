@@ -11,7 +11,7 @@ ghost use Rattle.format.specs.Result.{done};
 ghost use Rattle.format.specs.Deriving.{derives};
 ghost use Rattle.format.specs.Refusal.{outcome};
 ghost use Rattle.format.specs.Rows.{cleared};
-ghost use Rattle.tables.specs.Working.{lists, room_in};
+ghost use Rattle.tables.specs.Working.{derive_room};
 ghost use Rattle.check_stages.specs.Agreement.{chains_judged, indices_judged, matrices_judged};
 ghost use Rattle.check_stages.specs.Agreement.{chains_stage, indices_stage, matrices_stage};
 
@@ -21,23 +21,31 @@ use derive_chains::tags::build_bone_tags;
 use derive_children::indices::build_indices;
 use derive_matrices::matrices::build_transformations;
 use format::{ENTRY_WORDS, MATRIX_WORDS, Refusal};
-use tables::working::Working;
 
 // ---- room
 
-// Whether working tables have the rows that n bones need: an entry is three words and a matrix sixteen, and for each of n + 1 there are
-// eight child entries and four pending rows of two words.
+// Whether working tables of so many words have the rows that n bones need: an entry is three words and a matrix sixteen, and for each of
+// n + 1 there are eight child entries and four pending rows of two words. (Told by their lengths: a caller may ask before it has tables.)
 #[tactic(auto, unfolding(format::specs::Deriving::derives))]
-pub fn room(n: usize, tables: &Working) -> bool
-    ensures answer { result ≡ derives (room_in (lists tables.now)) n }
+pub fn room(
+    n: usize,
+    buckets: usize,
+    entries: usize,
+    inverse: usize,
+    local: usize,
+    parents: usize,
+    children: usize,
+    pending: usize,
+) -> bool
+    ensures answer { result ≡ derives (derive_room buckets entries inverse local parents children pending) n }
 {
-    bucket_count(n) <= tables.buckets.len()
-        && entry_count(n) <= tables.entries.len() / ENTRY_WORDS
-        && n <= tables.inverse.len() / MATRIX_WORDS
-        && n <= tables.local.len() / MATRIX_WORDS
-        && n <= tables.parents.len()
-        && n < tables.children.len() / 8
-        && n < tables.pending.len() / 8
+    bucket_count(n) <= buckets
+        && entry_count(n) <= entries / ENTRY_WORDS
+        && n <= inverse / MATRIX_WORDS
+        && n <= local / MATRIX_WORDS
+        && n <= parents
+        && n < children / 8
+        && n < pending / 8
 }
 
 // ---- chains

@@ -6,9 +6,8 @@ ghost use Rattle.std.specs.Prelude.{◌≡◌, length};
 ghost use Rattle.format.specs.Deriving.{derives};
 ghost use Rattle.format.specs.Refusal.{outcome};
 ghost use Rattle.format.specs.Rows.{cleared};
-ghost use Rattle.tables.specs.Working.{lists as working_lists};
-ghost use Rattle.tables.specs.Working.{room_in};
 ghost use Rattle.check_stages.specs.Agreement.{chains_stage, indices_stage, matrices_stage};
+ghost use Rattle.tables.specs.Working.{derive_room};
 ghost use Rattle.read.specs.Lent.{lists, SameTables};
 ghost use Rattle.read.specs.Reads.{meant_read};
 ghost use Rattle.check_steps.specs.Steps.{counts_of, begun, behind, kept_by};
@@ -16,7 +15,6 @@ ghost use Rattle.check_steps.specs.Steps.{counts_of, begun, behind, kept_by};
 use check_stages::{chains_stage, indices_stage, matrices_stage, room};
 use format::Refusal;
 use read::{Skeleton, Tables};
-use tables::working::Working;
 
 // How long each part is that was read: in rows, and in words of a list of matrices. What is absent counts 0.
 #[derive(Clone, Copy, Debug, Default, PartialEq, Eq)]
@@ -46,18 +44,27 @@ pub fn count_parts(r: Result<Option<Skeleton>, Refusal>) -> Counts
     }
 }
 
-// Reading's answer, then 1 where the working tables lack the rows for n bones.
+// Reading's answer, then 1 where working tables of so many words lack the rows for n bones.
 pub fn begin(
     r: Result<Option<Skeleton>, Refusal>,
     n: usize,
-    working: &Working,
+    buckets: usize,
+    entries: usize,
+    inverse: usize,
+    local: usize,
+    parents: usize,
+    children: usize,
+    pending: usize,
 ) -> Result<Option<usize>, Refusal>
-    ensures answer { outcome result ≡ begun (meant_read r) n (derives (room_in (working_lists working.now)) n) }
+    ensures answer { outcome result
+        ≡ begun (meant_read r) n (derives (derive_room buckets entries inverse local parents children pending) n) }
 {
     let Some(_) = r? else {
         return Ok(None);
     };
-    if room(n, working) {
+    if room(
+        n, buckets, entries, inverse, local, parents, children, pending,
+    ) {
         Ok(Some(n))
     } else {
         Err(Refusal::TableTooShort)
@@ -65,29 +72,32 @@ pub fn begin(
 }
 
 // ---- The three steps: each is a stage, where nothing was refused so far, and else clears its own working tables. (No one step takes
-// its stage as a closure: the clearing would stand behind the call of it, and clear once more what the stage has cleared.)
+// its stage as a closure: the clearing would stand behind the call of it, and clear once more what the stage has cleared. Each is lent the
+// lists that it compares, and not the struct of all: who has shared slices can call it too.)
 
 // 21: the chains. The working tables are zero after it.
 pub fn chains_step(
     v: Result<Option<usize>, Refusal>,
-    tables: &Tables,
-    counts: Counts,
+    bones: &[u32],
+    buckets: &[u32],
+    count: usize,
+    entries: &[u32],
     derived_buckets: &mut [u32],
     derived_entries: &mut [u32],
 ) -> Result<Option<usize>, Refusal>
     ensures answer { outcome result ≡ behind (outcome v) (λ n.
-        chains_stage n tables.now.bones.now counts.buckets tables.now.buckets.now tables.now.entries.now
+        chains_stage n bones.now count buckets.now entries.now
         (length derived_buckets.old) (length derived_entries.old)) }
     ensures work { (derived_buckets.new ≡ cleared (length derived_buckets.old))
         × (derived_entries.new ≡ cleared (length derived_entries.old)) }
 {
     if let Ok(Some(n)) = v {
         chains_stage(
-            tables.bones,
+            bones,
             n,
-            tables.buckets,
-            counts.buckets,
-            tables.entries,
+            buckets,
+            count,
+            entries,
             derived_buckets,
             derived_entries,
         )?;
@@ -101,14 +111,17 @@ pub fn chains_step(
 // 22, then 23: parents and children. The working tables are zero after it.
 pub fn indices_step(
     v: Result<Option<usize>, Refusal>,
-    tables: &Tables,
-    counts: Counts,
+    bones: &[u32],
+    parents: &[u16],
+    p: usize,
+    children: &[u16],
+    c: usize,
     derived_parents: &mut [u16],
     derived_children: &mut [u16],
     pending: &mut [u32],
 ) -> Result<Option<usize>, Refusal>
     ensures answer { outcome result ≡ behind (outcome v) (λ n.
-        indices_stage n tables.now.bones.now counts.parents tables.now.parents.now counts.children tables.now.children.now
+        indices_stage n bones.now p parents.now c children.now
         (length derived_parents.old) (length derived_children.old) (length pending.old)) }
     ensures work { (derived_parents.new ≡ cleared (length derived_parents.old))
         × (derived_children.new ≡ cleared (length derived_children.old))
@@ -116,12 +129,12 @@ pub fn indices_step(
 {
     if let Ok(Some(n)) = v {
         indices_stage(
-            tables.bones,
+            bones,
             n,
-            tables.parents,
-            counts.parents,
-            tables.children,
-            counts.children,
+            parents,
+            p,
+            children,
+            c,
             derived_parents,
             derived_children,
             pending,
@@ -137,25 +150,28 @@ pub fn indices_step(
 // 24, then 25: the matrices. The working tables are zero after it.
 pub fn matrices_step(
     v: Result<Option<usize>, Refusal>,
-    tables: &Tables,
-    counts: Counts,
+    bones: &[u32],
+    inverse: &[u32],
+    i: usize,
+    local: &[u32],
+    l: usize,
     derived_inverse: &mut [u32],
     derived_local: &mut [u32],
 ) -> Result<Option<usize>, Refusal>
     ensures answer { outcome result ≡ behind (outcome v) (λ n.
-        matrices_stage n tables.now.bones.now counts.inverse tables.now.inverse.now counts.local tables.now.local.now
+        matrices_stage n bones.now i inverse.now l local.now
         (length derived_inverse.old) (length derived_local.old)) }
     ensures work { (derived_inverse.new ≡ cleared (length derived_inverse.old))
         × (derived_local.new ≡ cleared (length derived_local.old)) }
 {
     if let Ok(Some(n)) = v {
         matrices_stage(
-            tables.bones,
+            bones,
             n,
-            tables.inverse,
-            counts.inverse,
-            tables.local,
-            counts.local,
+            inverse,
+            i,
+            local,
+            l,
             derived_inverse,
             derived_local,
         )?;

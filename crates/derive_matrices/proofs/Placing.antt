@@ -68,7 +68,7 @@ module _ (f : Bone Place → List ℕ) (size : (b : Bone Place) → length (f b)
 
 -- ---- from rows that stand to more of them
 
-continues_none : (f : Bone Place → List ℕ) (rows : List (List ℕ)) (p : ℕ) (d : List ℕ) → Continues f rows p p d d
+pub continues_none : (f : Bone Place → List ℕ) (rows : List (List ℕ)) (p : ℕ) (d : List ℕ) → Continues f rows p p d d
 continues_none f rows p d = record { same = refl; placed = λ d₀ h. h }
 
 module _ (f : Bone Place → List ℕ) (size : (b : Bone Place) → length (f b) ≡ 16) where

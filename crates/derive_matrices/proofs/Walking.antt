@@ -48,10 +48,10 @@ module _ (rows : List (List ℕ)) (p : ℕ) (s : Pose) where
   walk_stays zero e = refl
   walk_stays (suc k) e = rw e
 
-  walk-negative : (k : ℕ) → 32768 ≤ p → walk (map bone_of rows) k p s ≡ s
+  pub walk-negative : (k : ℕ) → 32768 ≤ p → walk (map bone_of rows) k p s ≡ s
   walk-negative k h = walk_stays k (rw (le-leb 32768 p h))
 
-  walk_outside : (k : ℕ) → p < 32768 → length rows ≤ p → walk (map bone_of rows) k p s ≡ s
+  pub walk_outside : (k : ℕ) → p < 32768 → length rows ≤ p → walk (map bone_of rows) k p s ≡ s
   walk_outside k g h = walk_stays k (rw (lt-leb 32768 p g, length-map rows bone_of, le-ltb p (length rows) h))
 
   pub walk-stops : (k : ℕ) → (Climb (length rows) p → ⊥) → walk (map bone_of rows) k p s ≡ s

@@ -51,6 +51,12 @@ module _ {A : Type 0} {w : List A} {n : ℕ} {t₀ : List A} {to : ℕ} {t : Lis
   pub put_all : n ≤ i → t ≡ sets t₀ to w
   put_all h = let all : take i w ≡ w = take_all i w (omega (arith, p.size)) in rw all at p.is
 
+-- the next one, from the table's start on
+pub put-next :
+    {A : Type 0} {w : List A} {n : ℕ} {t₀ t : List A} {i : ℕ} → Put w n t₀ 0 t i → (d : A) {v : A} → i < n → v ≡ get_or w i d
+    → Put w n t₀ 0 (set t i v) (i + 1)
+put-next {t = t} {i} p d {v} h e = let z : 0 + i ≡ i = omega arith in rw z at (put-one p d h e)
+
 -- the next number
 pub put-more :
     {w : List ℕ} {n : ℕ} {t₀ : List ℕ} {to : ℕ} {t : List ℕ} {i : ℕ} → Put w n t₀ to t i → {v : ℕ} → i < n → v ≡ get_or w i 0

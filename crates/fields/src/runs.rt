@@ -48,8 +48,18 @@ pub fn copy<T: Copy>(s: &[T], from: usize, n: usize, t: &mut [T], to: usize) -> 
     if !stands(s, from, n) || !stands(t, to, n) {
         return Err(Outside);
     }
-    t[to..to + n].copy_from_slice(&s[from..from + n]);
+    copy_each(&s[from..from + n], &mut t[to..to + n]);
     Ok(())
+}
+
+// One by one: by `copy_from_slice`, of a length that is not known, the static library would want memmove of whom it is linked to.
+fn copy_each<T: Copy>(s: &[T], t: &mut [T])
+    requires { length s.now ≡ length t.old }
+    ensures { t.new ≡ s.now }
+{
+    for i in 0..t.len() {
+        t[i] = s[i];
+    }
 }
 
 // ---- all numbers of some bytes

@@ -33,19 +33,19 @@ part-system sec o n h l =
     let m : (base + o) % window ≡ o = omega arith in
     simp (d, m, le-leb (o + n) (length sec.system) l)
 
-array-part : (sec : Section) (va n : ℕ) → (n ≡ 0 → ⊥) → array sec va n ≡ part sec va n
+pub array-part : (sec : Section) (va n : ℕ) → (n ≡ 0 → ⊥) → array sec va n ≡ part sec va n
 unfolding array
 array-part sec va zero h = absurd (h refl)
 array-part sec va (suc n) h = refl
 
 -- the bytes of some limits are some
-bytes-some : (k n : ℕ) → 3 ≤ k → (n ≡ 0 → ⊥) → 4 * k * n ≡ 0 → ⊥
+pub bytes-some : (k n : ℕ) → 3 ≤ k → (n ≡ 0 → ⊥) → 4 * k * n ≡ 0 → ⊥
 bytes-some k n h l e =
     let a : 12 * n ≤ 4 * k * n = mul-le-mul_right n (omega arith) in
     omega arith
 
 -- a field inside a part is the field of the whole
-field-part : (k n j at : ℕ) (s : List ℕ) → j + k ≤ n → field k (take n (drop at s)) j ≡ field k s (at + j)
+pub field-part : (k n j at : ℕ) (s : List ℕ) → j + k ≤ n → field k (take n (drop at s)) j ≡ field k s (at + j)
 field-part k n j at s h =
     let e : j + (n - j) ≡ n = omega arith in
     let d : drop j (take n (drop at s)) ≡ take (n - j) (drop j (drop at s)) = rw e at (drop-take j (n - j) (drop at s)) in

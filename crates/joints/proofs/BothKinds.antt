@@ -26,14 +26,14 @@ length_part n a w h = length-take-le n (drop a w) (simp length-drop (omega arith
 
 -- ---- sizes
 
-length-others : (i j k : ℕ) (w : List ℕ) → length w ≡ 9 + i + j + k → length (others i j w) ≡ 2 + i + j + k
+pub length-others : (i j k : ℕ) (w : List ℕ) → length w ≡ 9 + i + j + k → length (others i j w) ≡ 2 + i + j + k
 length-others i j k w e =
     let a = length_part 2 0 w (omega arith) in
     let b = length_part i 3 w (omega arith) in
     let c = length_part j (6 + i) w (omega arith) in
     simp (length-append, a, b, c, length-drop) (omega arith)
 
-length-placed :
+pub length-placed :
     (i j k v : ℕ) (a b : Words3) (o : List ℕ) → length o ≡ 2 + i + j + k → length (placed i j v a b o) ≡ 9 + i + j + k
 length-placed i j k v a b o e =
     let x = length_part 2 0 o (omega arith) in

@@ -19,7 +19,7 @@ module _ {A : Type 0} (f : A → List ℕ) where
   flat_map-append [] b = refl
   flat_map-append (x ∷ a) b = simp (flat_map-append a b, append_assoc)
 
-  made_suc : (xs : List A) (i : ℕ) (x : A) → i < length xs → flat_map f (take (i + 1) xs) ≡ flat_map f (take i xs) ++ f (get_or xs i x)
+  pub made_suc : (xs : List A) (i : ℕ) (x : A) → i < length xs → flat_map f (take (i + 1) xs) ≡ flat_map f (take i xs) ++ f (get_or xs i x)
   unfolding flat_map
   made_suc xs i x h = rw (add-one, take-suc xs i x h, flat_map-append) (simp append-nil)
 

@@ -164,7 +164,7 @@ module _ {L : Type 0} (f : List ℕ → List ℕ) (k w : ℕ) (row limit : List 
     (back : (s : List ℕ) → length s ≡ k → row (f s) ≡ limit s)
   where
     -- the rows of n records hold their limits, whatever lies behind them
-    rows_back :
+    pub rows_back :
         (n : ℕ) (s rest : List ℕ) →
         k * n ≤ length s →
         map row (limit_rows w n (flat_map f (limit_rows k n s) ++ rest)) ≡ map limit (limit_rows k n s)

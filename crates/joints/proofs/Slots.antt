@@ -17,7 +17,7 @@ use Rattle.fields.specs.Runs.{loaded, stored}
 -- ---- all of an array
 
 -- what is stored over all of a list is the list
-all-stored : (x t : List ℕ) → length x ≡ length t → sets t 0 x ≡ x
+pub all-stored : (x t : List ℕ) → length x ≡ length t → sets t 0 x ≡ x
 all-stored x t e =
     let z : 0 + length x ≡ length x = zero-add (length x) in
     sets-eq x t 0 (omega arith) ∙ rw (z, drop_of_length-le t {i = length x} (omega arith)) (append-nil x)
@@ -37,7 +37,7 @@ stored_all n w e f =
 -- ---- slots and rows, word by word
 
 -- n words of a list from word k on
-abbrev words_at : ℕ → ℕ → List ℕ → List ℕ
+abbrev pub words_at : ℕ → ℕ → List ℕ → List ℕ
 words_at zero k t = []
 words_at (suc n) k t = get_or t k 0 ∷ words_at n (suc k) t
 

@@ -45,7 +45,7 @@ module _
     {sec : Section} {va n : ℕ} {r : Result (Option Buckets) Refusal} {b₀ b e₀ e p₀ p : List ℕ}
     (m : ReadsBuckets sec va n 0 0 r b₀ b e₀ e p₀ p)
   where
-    chains_absent : r ≡ Ok None → ReadsChains sec va n (Ok None) b₀ b e₀ e p₀ p
+    pub chains_absent : r ≡ Ok None → ReadsChains sec va n (Ok None) b₀ b e₀ e p₀ p
     chains_absent i =
         record {
           reads =

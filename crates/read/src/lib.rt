@@ -51,6 +51,7 @@ pub struct Tables<'a> {
 
 impl Tables<'_> {
     // Zeros in every table.
+    #[inline(always)]
     pub fn clear(&mut self)
         ensures tables { lists self.new ≡ cleared_all (lists self.old) }
         ensures same { SameTables self.old self.new }

@@ -30,14 +30,14 @@ abbrev pub behind : ℕ → ℕ → ours.List
 behind used m = record { stored = record { first = used; count = m }; used = used + m }
 
 -- all of the m words w, which fit
-takes-stored :
+pub takes-stored :
     (w : List ℕ) {m room used : ℕ} {t₀ t : List ℕ} → length w ≡ m → used + m ≤ room → t ≡ sets t₀ used w →
     Takes w room used (Ok (behind used m)) t₀ t
 takes-stored w {m} {room} {used} n h e =
     let yes : leb (used + length w) room ≡ true = le-leb (used + length w) room (omega arith) in
     record { answer = rw yes (simp n); table = rw yes e }
 
-takes-short :
+pub takes-short :
     (w : List ℕ) {m room used : ℕ} {t₀ t : List ℕ} → length w ≡ m → room < used + m → t ≡ t₀ →
     Takes w room used (Err TableTooShort) t₀ t
 takes-short w {m} {room} {used} n h e =

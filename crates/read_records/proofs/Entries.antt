@@ -1,15 +1,17 @@
--- The laws of one entry's fields: a field of some bytes of a half, and what a caller learns of the answers. Assumes nothing.
+-- The laws of one entry's fields: a field of some bytes of a half, what a cursor reads, and what a caller learns of the answers. Assumes nothing.
 use Prim.Native.Nat.{ℕ, ◌+◌, ◌≤◌}
 use native.Mathlib.Omega.{arith}
 use mathlib.Core.Path.{◌≡◌, refl, sym, ap, ◌∙◌}
 use mathlib.Core.List.{List}
 use lib.ListN.{length, take, drop, take-append-drop, length-drop}
 use lib.Seq.{drop-drop, length-take-le}
+use denote.Ref.{Bor}
 use Rattle.format.specs.Result.{Res, refused, done, ◌>>=◌}
-use Rattle.format.specs.Field.{value_of, field}
+use Rattle.format.specs.Field.{value_of, field, or_zero}
 use Rattle.format.specs.Section.{Section, part}
 use Rattle.format.proofs.Fields.{field-within}
-use Rattle.read_records.specs.Entry.{entry_in, entry_at}
+use Rattle.blocks.specs.Cursor.{cursor_at}
+use Rattle.read_records.specs.Entry.{entry_in, entry_read, entry_at}
 use Rattle.read_records.specs.declared.entry.Entry.{Entry}
 
 -- ---- fields
@@ -23,6 +25,13 @@ field-part k n half o at h l =
     sym (field-within k (take n (drop o half)) (drop n (drop o half)) at (omega (arith, long))) ∙
     ap (λ (s : List ℕ). field k s at) (take-append-drop n (drop o half)) ∙
     ap (λ (s : List ℕ). value_of (take k s)) (drop-drop at o half)
+
+-- ---- what a cursor reads
+
+-- of sixteen bytes that stand, the entry that they hold
+pub entry_whole : (b : Bor (List ℕ)) (base : ℕ) → length b.now ≡ 16 → entry_read (cursor_at b 0 base) ≡ done (entry_in b.now)
+unfolding or_zero
+entry_whole b base h = rw h refl
 
 -- ---- what a caller learns of an entry's fields
 

@@ -1,9 +1,11 @@
 // A tag entry: the fields of its 16 bytes (docs/FORMAT.md, "Records").
-ghost use Rattle.std.specs.Prelude.{◌≡◌, ◌≤◌, length};
+ghost use Rattle.std.specs.Prelude.{◌≡◌};
 ghost use Rattle.format.specs.Refusal.{outcome};
+ghost use Rattle.blocks.specs.Cursor.{cursor_at};
 ghost use Rattle.blocks.specs.Places.{section_of};
-ghost use Rattle.read_records.specs.Entry.{entry_in, entry_at};
+ghost use Rattle.read_records.specs.Entry.{entry_read, entry_at};
 
+use blocks::cursor::Cursor;
 use blocks::places::Section;
 use format::Refusal;
 
@@ -15,24 +17,28 @@ pub struct Entry {
     pub next: u64,
 }
 
-// The entry that 16 bytes hold. They are asked for at once, so that the compiler drops the tests of each read.
-#[tactic(auto, unfolding(format::specs::Field::or_zero))]
-fn entry_in(bytes: &[u8]) -> Entry
-    requires { 16 ≤ length bytes.now }
-    ensures { result ≡ entry_in bytes.now }
+// The entry at an offset of some bytes, read by a cursor: 11 where not all of its bytes stand.
+fn read_entry(bytes: &[u8], at: usize, base: u64) -> Result<Entry, Refusal>
+    ensures answer { outcome result ≡ entry_read (cursor_at bytes.entry at base) }
 {
-    Entry {
-        tag: fields::read::<u32>(bytes, 0),
-        position: fields::read::<u32>(bytes, 4),
-        next: fields::read::<u64>(bytes, 8),
-    }
+    let mut c = Cursor::new(bytes, at, base);
+    let tag = c.u32();
+    let position = c.u32();
+    let next = c.u64();
+    c.check()?;
+    Ok(Entry {
+        tag,
+        position,
+        next,
+    })
 }
 
-// The fields of the entry at an address, whose 16 bytes must stand: 10, 11.
-#[tactic(auto, unfolding(crate::specs::Entry::entry_at))]
+// The fields of the entry at an address, whose 16 bytes must stand: 10, 11. They are asked for at once, so that the compiler drops
+// the tests of each read.
+#[tactic(auto, using(crate::proofs::Entries::entry_whole), unfolding(crate::specs::Entry::entry_at))]
 pub fn entry_at(section: Section, va: u64) -> Result<Entry, Refusal>
     ensures answer { outcome result ≡ entry_at (section_of section.entry) va }
 {
     let bytes = section.slice(va, format::ENTRY_SIZE)?;
-    Ok(entry_in(bytes))
+    read_entry(bytes, 0, va)
 }

@@ -41,13 +41,16 @@ pub(crate) const OPERATIONS: [Operation; 15] = [
 
 // A number of no operation.
 #[derive(Clone, Copy, Debug, PartialEq, Eq)]
-pub(crate) struct UnknownOperation;
+pub(crate) struct UnknownOperation(pub(crate) u32);
 
 impl TryFrom<u32> for Operation {
     type Error = UnknownOperation;
 
     fn try_from(n: u32) -> Result<Operation, UnknownOperation> {
-        OPERATIONS.get(n as usize).copied().ok_or(UnknownOperation)
+        OPERATIONS
+            .get(n as usize)
+            .copied()
+            .ok_or(UnknownOperation(n))
     }
 }
 

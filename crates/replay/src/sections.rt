@@ -136,8 +136,8 @@ fn rows_into(case: &[u8], root: u64, run: Run, want: &[u8], answer: u32) -> bool
 
 pub(crate) fn read_agrees(case: &[u8], root: u64, run: Run, answer: u32) -> bool {
     let want = match run {
-        Run::Short(_) => &case[..0],
-        Run::Full | Run::Longer => case,
+        Run::Short(table) if table < replay_sample::run::FULL => &case[..0],
+        _ => case,
     };
     rows_into(case, root, run, want, answer)
 }

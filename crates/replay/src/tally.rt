@@ -62,14 +62,25 @@ impl Tally {
             }
             println!(rt; "differs first: case {number} tables {run}")?;
         }
-        if let Ok(operation) = operation {
-            self.operations[operation as usize].note(agrees);
+        match operation {
+            Ok(operation) => self.operations[operation as usize].note(agrees),
+            Err(UnknownOperation(n)) => self.note_unknown(n),
         }
         self.all.note(agrees);
         if agrees {
             count(&mut self.met, answer as usize);
         }
         Ok(())
+    }
+
+    // A run of no operation differs, and counts twice: as if all counts stood in one list, two for each operation, at 30 and 31 those in
+    // all, and from 40 on the answers.
+    fn note_unknown(&mut self, n: u32) {
+        if n == 15 {
+            self.all.note(false);
+        } else if n >= 20 && n < 70 {
+            count(&mut self.met, 2 * (n as usize) - 39);
+        }
     }
 
     // Prints a line for each operation and each answer that was met, then how many runs agree and how many differ.

@@ -13,11 +13,11 @@ either false a b = b
 abbrev pub length_of : List ℕ → ℕ → ℕ
 length_of case t = get_or (numbers 4 (part_of 2 case)) t 0
 
--- How many words of table t, which has `most`, a run lends: all; or as many as it must have, but where the table itself is to be short one
--- less.
+-- How many words of table t, which has `most`, a run lends: all; or as many as it must have, but in the run of the table's own number
+-- one less.
 abbrev pub lent_of : List ℕ → Run → ℕ → ℕ → ℕ
 lent_of case Longer t most = most
-lent_of case Full t most = min (length_of case t) most
+lent_of case Full t most = min (length_of case t - either (eqb 100 t) 1 0) most
 lent_of case (Short s) t most = min (length_of case t - either (eqb s t) 1 0) most
 
 -- r is the number n, and stands for the front of a table. A call that is lent the front asks for the last two.

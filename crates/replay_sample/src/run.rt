@@ -13,7 +13,8 @@ pub enum Run {
     Short(u32),
 }
 
-const FULL: u32 = 100;
+// A number below it is that of a table.
+pub const FULL: u32 = 100;
 
 const LONGER: u32 = 101;
 
@@ -38,7 +39,7 @@ pub fn lent<T>(case: &[u8], run: Run, t: u32, table: &[T]) -> usize
 {
     let length = number::<u32>(part(case, LENGTHS), t as usize) as usize;
     let wanted = match run {
-        Run::Full => length,
+        Run::Full => length.saturating_sub(usize::from(FULL == t)),
         Run::Longer => table.len(),
         Run::Short(short) => length.saturating_sub(usize::from(short == t)),
     };

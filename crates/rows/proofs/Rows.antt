@@ -16,7 +16,7 @@ use Rattle.format.specs.Rows.{bone_width, bone_of, bones_of}
 use Rattle.rows.specs.Row.{row_at, bones_got}
 
 -- row p of what follows the first row is row p + 1
-row_at-suc : (t : List ℕ) (p : ℕ) → row_at (drop bone_width t) p ≡ row_at t (suc p)
+pub row_at-suc : (t : List ℕ) (p : ℕ) → row_at (drop bone_width t) p ≡ row_at t (suc p)
 row_at-suc t p =
     let e : bone_width + bone_width * p ≡ bone_width * suc p = omega arith in
     ap bone_of (drop-drop (bone_width * p) bone_width t ∙ ap (λ (k : ℕ). drop k t) e)

@@ -2,16 +2,16 @@
 // section empty, and prints `ok` and the bone count, or `refused` and the number.
 #![tactic(auto)]
 
-mod report; // the line printed
+mod line; // the line printed
 
-ghost use Rattle.std.specs.Prelude.{◌≡◌, Some};
+ghost use Rattle.std.specs.Prelude.{◌≡◌, ◌≤◌, length, drop};
 ghost use Rattle.format.specs.Refusal.{outcome};
 ghost use Rattle.format.specs.Program.{printed, report};
 
-use crate::report::Report;
+use crate::line::put_report;
 use format::Refusal;
 use read::Tables;
-use std::{fmt, io};
+use std::io;
 use tables::working::Working;
 
 // The longest section.
@@ -19,7 +19,7 @@ const LONGEST: usize = 65536;
 
 // The bone count of a section that passes, none for root 0. The tables hold 800 bones, 8,192 buckets, 4,096 entries, 8,192 child entries and
 // 8,192 pool rows.
-fn check(sys: &[u8]) -> Result<Option<u16>, Refusal>
+fn check(sys: &[u8]) -> Result<Option<usize>, Refusal>
     ensures line { report (outcome result) ≡ printed sys.now }
 {
     if sys.len() > LONGEST {
@@ -44,22 +44,22 @@ fn check(sys: &[u8]) -> Result<Option<u16>, Refusal>
         children: &mut [0u16; 8192],
         pending: &mut [0u32; 6408],
     };
-    let count = verify::check(sys, &[], format::SYSTEM_BASE, &mut tables, &mut working)?;
-    let Some(bones) = count else {
-        return Ok(None);
-    };
-    Ok(Some(bones as u16))
+    verify::check(sys, &[], format::SYSTEM_BASE, &mut tables, &mut working)
 }
 
-// What is printed for a section.
-fn print_check(sys: &[u8]) -> Report
-    ensures line { ⟦<Report as fmt::Display>⟧.output result ≡ Some (printed sys.now) }
+// Puts the line for a section at the end of a buffer, and gives where it starts.
+fn print_check(sys: &[u8], line: &mut [u8]) -> usize
+    requires { 14 ≤ length line.old }
+    ensures line { drop result line.new ≡ printed sys.now }
+    ensures place { result ≤ length line.old }
 {
-    Report { answer: check(sys) }
+    put_report(check(sys), line)
 }
 
 fn main(rt: HostRuntime) -> io::Result<()> {
     let mut section = [0u8; 65537];
     let n = input::read_full(&mut rt.stdin(), &mut section)?;
-    rt.print(print_check(&section[..n]))
+    let mut line = [0u8; 16];
+    let at = print_check(&section[..n], &mut line);
+    rt.write_all(&line[at..])
 }

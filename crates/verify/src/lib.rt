@@ -2,13 +2,16 @@
 // the two are compared word by word.
 #![tactic(auto)]
 
+mod steps; // the steps, of the struct of tables
+
 ghost use Rattle.blocks.specs.Places.{section};
 ghost use Rattle.read.specs.Lent.{lists, SameTables};
 ghost use Rattle.tables.specs.Working.{lists as working_lists, SameTables as SameWorking};
 ghost use Rattle.verify.specs.Checks.{Checks};
 
+use crate::steps::{chains_step, indices_step, matrices_step};
 use blocks::places::Section;
-use check_steps::{begin, chains_step, count_parts, indices_step, matrices_step, settle};
+use check_steps::{begin, count_parts, settle};
 use format::Refusal;
 use read::Tables;
 use tables::working::Working;
@@ -32,7 +35,17 @@ pub fn check(
 {
     let r = read::read(Section { system, graphics }, root, tables);
     let k = count_parts(r);
-    let b = begin(r, k.bones, working);
+    let b = begin(
+        r,
+        k.bones,
+        working.buckets.len(),
+        working.entries.len(),
+        working.inverse.len(),
+        working.local.len(),
+        working.parents.len(),
+        working.children.len(),
+        working.pending.len(),
+    );
     let c = chains_step(b, tables, k, working.buckets, working.entries);
     let i = indices_step(
         c,

@@ -6,15 +6,15 @@ use mathlib.Core.List.{List, [], ◌∷◌, ◌++◌, append-nil, append_assoc}
 use Prim.Native.Nat.{ℕ, suc, ◌+◌, ◌-◌, ◌*◌, ◌≤◌, ◌<◌}
 use native.Mathlib.Omega.{arith}
 use lib.ListN.{length, take, drop, set, replicate, length-append, length-drop, take-append-drop, drop_of_length-le}
-use lib.Seq.{sets, length-sets, set-set, set_comm, take-take, length-take-le, drop-drop}
+use lib.Seq.{take_all, sets, length-sets, set-set, set_comm, take-take, length-take-le, drop-drop}
 use borrow.Rule.Slice.PartMut.{put_mid}
 use Rattle.std.proofs.lemmas.List.Edits.{sets-eq}
 use borrow.Author.Tests.{le-leb}
 use Rattle.format.specs.Field.{which_list, word_bytes}
-use Rattle.fields.specs.Runs.{stored}
+use Rattle.fields.specs.Runs.{stored, copied}
 use Rattle.format.specs.Layout.{fill, pad16}
 use Rattle.fields.proofs.Stores.{sets-append}
-use Rattle.fields.proofs.RunLaws.{Left}
+use Rattle.fields.proofs.RunLaws.{Left, copied-stands}
 use Rattle.write.specs.Names.{StoredTo}
 
 -- ---- a run of numbers that has room
@@ -24,6 +24,10 @@ pub run-stands :
     → stored numbers k w d at ≡ sets d at (word_bytes k (numbers w))
 unfolding which_list
 run-stands numbers k w d at h = rw (le-leb (at + k * length w) (length d) h) refl
+
+-- all bytes of a list
+pub bytes-stand : (s d : List ℕ) (at : ℕ) → at + length s ≤ length d → copied (length s) s 0 d at ≡ sets d at s
+bytes-stand s d at h = copied-stands (length s) s 0 d at (omega arith) h ∙ ap (sets d at) (take_all (length s) s (omega arith))
 
 -- ---- stores that do not meet
 

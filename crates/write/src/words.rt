@@ -18,27 +18,33 @@ pub(crate) fn put_run<T: Pod>(d: &mut [u8], at: usize, w: &[T])
     let _ = runs::put(d, at, w);
 }
 
-// The first k bytes of s at least: the buffer may change up to its end. Where there are 32 on both sides, 32 are stored, whatever k is:
-// a copy of a length that is known is two loads and two stores.
+// The first k bytes of s at least: the buffer may change up to its end. Where there are 32 on both sides, 32 are stored, whatever k is.
 pub(crate) fn put_at_least(d: &mut [u8], at: usize, s: &[u8], k: usize)
     requires { (k ≤ length s.now) × (at + k ≤ length d.old) }
     ensures bytes { StoredTo (length d.old) d.old at (take k s.now) d.new }
 {
     if k <= CHUNK && s.len() >= CHUNK && d.len() - at >= CHUNK {
-        put_bytes(d, at, &s[..CHUNK]);
+        put_chunk(d, at, &s[..CHUNK]);
         return;
     }
     put_bytes(d, at, &s[..k]);
 }
 
-// The bytes of s.
+// The bytes of s, 32: a copy of a length that is known is two loads and two stores.
 #[inline(always)]
+fn put_chunk(d: &mut [u8], at: usize, s: &[u8])
+    requires { (length s.now ≡ 32) × (at + 32 ≤ length d.old) }
+    ensures bytes { d.new ≡ sets d.old at s.now }
+{
+    d[at..at + CHUNK].copy_from_slice(s);
+}
+
+// The bytes of s.
 fn put_bytes(d: &mut [u8], at: usize, s: &[u8])
     requires { at + length s.now ≤ length d.old }
     ensures bytes { d.new ≡ sets d.old at s.now }
 {
-    let end = at + s.len();
-    d[at..end].copy_from_slice(s);
+    let _ = runs::copy(s, 0, s.len(), d, at);
 }
 
 // n zero bytes.

@@ -17,4 +17,4 @@ returns-then-not-stands-clause-table g c =
 pub returns-clause-table : goal.returns-clause-table
 returns-clause-table g c =
     copied-is c.args.n c.args.s.now c.args.from c.args.t.now c.args.to (sym c.stands.ensures.answer ∙ c.if-not-stands.false)
-    (sym c.stands-else-not-stands.ensures.answer ∙ c.if-not-stands-2.false) c.copy_from_slice.ensures.after
+    (sym c.stands-else-not-stands.ensures.answer ∙ c.if-not-stands-2.false) c.copy_each.ensures

@@ -21,10 +21,13 @@ returns g c =
     let must = length_is case c.args.t most c.part.ensures.part c.number-length.ensures.answer in
     let of = λ (run : Run). lent_of case run c.args.t most in
     let is : c.min.result ≡ lent_of case c.args.run c.args.t most = elim c.match-run.branch [
-      | in-Full w ↦ c.min.ensures ∙ ap (λ n. min n most) (w.wanted-is ∙ must) ∙ sym (ap of w.in-Full.is)
+      | in-Full w ↦
+          (let less = w.from.ensures ∙ one_if (eqb 100 c.args.t) in
+          let n : c.match-run.wanted ≡ size - either (eqb 100 c.args.t) 1 0 = omega (arith, less, must) in
+          c.min.ensures ∙ ap (λ n. min n most) n ∙ sym (ap of w.in-Full.is))
       | in-Longer w ↦ (let all : c.min.result ≡ most = omega arith in all ∙ sym (ap of w.in-Longer.is))
       | in-Short w ↦
-          (let less = w.from.ensures ∙ one_if (eqb w.in-Short.short c.args.t) in
+          (let less = w.from-in-Short.ensures ∙ one_if (eqb w.in-Short.short c.args.t) in
           let n : c.match-run.wanted ≡ size - either (eqb w.in-Short.short c.args.t) 1 0 = omega (arith, less, must) in
           c.min.ensures ∙ ap (λ n. min n most) n ∙ sym (ap of w.in-Short.is))
     ] in

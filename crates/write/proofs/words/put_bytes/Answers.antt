@@ -1,7 +1,8 @@
--- `write::words::put_bytes` meets its contract. Assumes nothing.
-use mathlib.Core.Path.{refl}
-use Rattle.write.proofs.Runs.{part-stored}
+-- `write::words::put_bytes` meets its contract: the run stands. Assumes nothing.
+use mathlib.Core.Path.{◌∙◌}
+use native.Mathlib.Omega.{arith}
+use Rattle.write.proofs.Runs.{bytes-stand}
 use Rattle.write.proofs.words.put_bytes.Goals as goal
 
 pub returns : goal.returns
-returns c = record { bytes = part-stored _ _ _ _ c.copy_from_slice.ensures.after refl c.requires }
+returns c = record { bytes = c.copy.ensures.table ∙ bytes-stand c.args.s.now c.args.d.now c.args.at c.requires }
