@@ -73,8 +73,8 @@ impl Tally {
         Ok(())
     }
 
-    // A run of no operation differs, and counts twice: as if all counts stood in one list, two for each operation, at 30 and 31 those in
-    // all, and from 40 on the answers.
+    // A run of no operation differs, and its number may count once more: as if all counts stood in one list, two for each operation, at 30
+    // and 31 those in all, and from 40 on the answers.
     fn note_unknown(&mut self, n: u32) {
         if n == 15 {
             self.all.note(false);
