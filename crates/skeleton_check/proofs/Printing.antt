@@ -1,14 +1,22 @@
 -- What is printed for a section: the line of the check's answer, with the program's tables. Assumes nothing.
-use Rattle.std.specs.Prelude.{Result, Err, Option}
+use Rattle.std.specs.Prelude.{Result, Ok, Err, Option, Some, None, Bool, true, false, ◌&&◌}
 use Rattle.format.specs.declared.Refusal.{Refusal}
 use Rattle.format.specs.Refusal.{outcome}
-use Prim.Native.Nat.{ℕ, ◌≤◌, ◌<◌}
-use mathlib.Core.Path.{◌≡◌, refl, ap, ◌∙◌}
+use Prim.Native.Nat.{ℕ, ◌+◌, ◌*◌, ◌≤◌, ◌<◌}
+use native.Mathlib.Omega.{arith}
+use lib.Dec.{T, leb}
+use Rattle.format.specs.Result.{done}
+use Rattle.format.specs.Section.{Section}
+use Rattle.format.specs.Chains.{bucket_count, entry_count}
+use Rattle.format.specs.Deriving.{derives}
+use Rattle.format.proofs.Results.{gone, needed}
+use Rattle.tables.proofs.Outcome.{both_true}
+use mathlib.Core.Path.{◌≡◌, refl, sym, ap, subst, ◌∙◌}
 use mathlib.Core.List.{List, []}
-use borrow.Author.Tests.{le-leb, lt-leb}
+use borrow.Author.Tests.{le-leb, lt-leb, leb-true}
 use lib.ListN.{length, replicate}
 use Rattle.format.specs.Layout.{base}
-use Rattle.format.specs.Check.{check}
+use Rattle.format.specs.Check.{Read, verdict, read, check_from, check}
 use Rattle.format.specs.Program.{program_room, program_derive_room, report, printed}
 use Rattle.format.specs.declared.Refusal.TheVariants.{TableTooShort}
 use Rattle.blocks.specs.Places.{section}
@@ -57,9 +65,58 @@ pub printed_long : {y : List ℕ} (s : List ℕ) → 65536 < length s → y ≡ 
 unfolding printed
 printed_long s h e = rw (lt-leb (length s) 65536 h) e
 
+-- ---- no more bones are accepted than the program has matrices for
+
+is_true : (b : Bool) → T b → b ≡ true
+is_true true h = refl
+is_true false h = absurd h
+
+-- what is derived has the program's matrices, of which there are 800
+few_derived : (n : ℕ) → T (derives program_derive_room n) → n ≤ 800
+unfolding derives
+few_derived n h =
+    let tags = leb (bucket_count n) 8192 && leb (entry_count n) 4096 in
+    let rows = tags && leb n 800 && leb n 800 && leb n 800 in
+    let last = both_true (rows && leb (8 * (n + 1)) 8192) (leb (4 * (n + 1)) 3204) (is_true _ h) in
+    let most = both_true rows (leb (8 * (n + 1)) 8192) last.0 in
+    leb-true n 800 (both_true (tags && leb n 800 && leb n 800) (leb n 800) most.0).1
+
+few_judged : (r : Read) (n : ℕ) → verdict program_derive_room r ≡ done n → n ≤ 800
+unfolding verdict
+few_judged r n e =
+    let s₁ = needed 1 _ _ n e in
+    let s₂₁ = needed 21 _ _ n s₁.1 in
+    let s₂₂ = needed 22 _ _ n s₂₁.1 in
+    let s₂₃ = needed 23 _ _ n s₂₂.1 in
+    let s₂₄ = needed 24 _ _ n s₂₃.1 in
+    let s₂₅ = needed 25 _ _ n s₂₄.1 in
+    let all : length r.bones ≡ n = sym (count s₂₅.1) in
+    subst (λ (k : ℕ). k ≤ 800) all (few_derived (length r.bones) s₁.0)
+  where
+    count : {m : ℕ} → done m ≡ done n → n ≡ m
+    count k = cc
+
+pub few_accepted : (sec : Section) (n : ℕ) → check sec program_room program_derive_room base ≡ done (Some n) → n ≤ 800
+unfolding check check_from
+few_accepted sec n e = gone (read sec program_room base) (check_from program_derive_room) (Some n) e λ o e₁ e₂. from o e₂
+  where
+    from : (o : Option Read) → check_from program_derive_room o ≡ done (Some n) → n ≤ 800
+    from None q = cc
+    from (Some r) q =
+        gone (verdict program_derive_room r) (λ m. done (Some m)) (Some n) q λ m e₁ e₂.
+        let same : m ≡ n = cc in
+        omega (arith, same, few_judged r m e₁)
+
+-- ---- the program's check
+
 module _ {s : List ℕ} {v : Result (Option ℕ) Refusal} {t : Lent} {x : Working} (m : Checks (section s []) base v lent t working x) where
   pub printed_checked : length s ≤ 65536 → report (outcome v) ≡ printed s
   unfolding printed
   printed_checked h =
       rw (le-leb (length s) 65536 h)
       (ap report (m.answer ∙ λ j. check (section s []) (room-is j) (derive_room-is j) base))
+
+  pub few_checked : (n : ℕ) → v ≡ Ok (Some n) → n ≤ 800
+  few_checked n e =
+      few_accepted (section s []) n
+      (sym (λ j. check (section s []) (room-is j) (derive_room-is j) base) ∙ sym m.answer ∙ ap outcome e)
