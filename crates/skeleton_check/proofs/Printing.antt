@@ -1,19 +1,19 @@
 -- What is printed for a section: the line of the check's answer, with the program's tables. Assumes nothing.
-use Rattle.std.specs.Prelude.{Result, Ok, Err, Option, Some, None, Bool, true, false, ◌&&◌}
+use Rattle.std.specs.Prelude.{Result, Ok, Err, Option, Some, None}
 use Rattle.format.specs.declared.Refusal.{Refusal}
 use Rattle.format.specs.Refusal.{outcome}
-use Prim.Native.Nat.{ℕ, ◌+◌, ◌*◌, ◌≤◌, ◌<◌}
+use Prim.Native.Nat.{ℕ, ◌≤◌, ◌<◌}
 use native.Mathlib.Omega.{arith}
-use lib.Dec.{T, leb}
+use lib.Dec.{T}
+use lib.Ieee.Bits.{is_true}
 use Rattle.format.specs.Result.{done}
 use Rattle.format.specs.Section.{Section}
-use Rattle.format.specs.Chains.{bucket_count, entry_count}
 use Rattle.format.specs.Deriving.{derives}
 use Rattle.format.proofs.Results.{gone, needed}
-use Rattle.tables.proofs.Outcome.{both_true}
+use Rattle.tables.proofs.Rooms.{derives_enough}
 use mathlib.Core.Path.{◌≡◌, refl, sym, ap, subst, ◌∙◌}
 use mathlib.Core.List.{List, []}
-use borrow.Author.Tests.{le-leb, lt-leb, leb-true}
+use borrow.Author.Tests.{le-leb, lt-leb}
 use lib.ListN.{length, replicate}
 use Rattle.format.specs.Layout.{base}
 use Rattle.format.specs.Check.{Read, verdict, read, check_from, check}
@@ -65,21 +65,10 @@ pub printed_long : {y : List ℕ} (s : List ℕ) → 65536 < length s → y ≡ 
 unfolding printed
 printed_long s h e = rw (lt-leb (length s) 65536 h) e
 
--- ---- no more bones are accepted than the program has matrices for
+-- ---- no more bones are accepted than there are parents in the program's working tables
 
-is_true : (b : Bool) → T b → b ≡ true
-is_true true h = refl
-is_true false h = absurd h
-
--- what is derived has the program's matrices, of which there are 800
 few_derived : (n : ℕ) → T (derives program_derive_room n) → n ≤ 800
-unfolding derives
-few_derived n h =
-    let tags = leb (bucket_count n) 8192 && leb (entry_count n) 4096 in
-    let rows = tags && leb n 800 && leb n 800 && leb n 800 in
-    let last = both_true (rows && leb (8 * (n + 1)) 8192) (leb (4 * (n + 1)) 3204) (is_true _ h) in
-    let most = both_true rows (leb (8 * (n + 1)) 8192) last.0 in
-    leb-true n 800 (both_true (tags && leb n 800 && leb n 800) (leb n 800) most.0).1
+few_derived n h = (derives_enough n 8192 12288 12800 12800 800 8192 6408 (is_true (derives program_derive_room n) h)).parents
 
 few_judged : (r : Read) (n : ℕ) → verdict program_derive_room r ≡ done n → n ≤ 800
 unfolding verdict
